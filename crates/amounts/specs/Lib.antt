@@ -1,0 +1,4 @@
+pub mod Quotients
+pub mod Ranges
+pub mod Refusals
+pub mod Sums
