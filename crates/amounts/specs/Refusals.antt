@@ -14,3 +14,11 @@ layer-of n = cond (ltb n 2) Ledger (cond (ltb n 11) Record (cond (ltb n 15) Book
 -- a refusal that concerns no slot and after which there is no next record
 abbrev pub refusal-at : ℕ → ℕ → Refusal
 refusal-at n p = record { number = n; layer = layer-of n; place = p; slot = None; next = None }
+
+-- the same, concerning the slot s
+abbrev pub at-slot : Refusal → ℕ → Refusal
+at-slot r s = record { number = r .number; layer = r .layer; place = r .place; slot = Some s; next = r .next }
+
+-- the same, with the next record beginning at p
+abbrev pub before-next : Refusal → ℕ → Refusal
+before-next r p = record { number = r .number; layer = r .layer; place = r .place; slot = r .slot; next = Some p }

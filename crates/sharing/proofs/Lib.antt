@@ -1,0 +1,10 @@
+pub mod Ranks
+pub mod Fair
+pub mod Nearest
+pub mod Signs
+pub mod Steps
+pub mod Extras
+pub mod Written
+pub mod Fairness
+pub mod Lines
+pub mod Outcomes
