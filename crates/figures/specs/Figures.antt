@@ -1,0 +1,24 @@
+-- The worked figures. Each row says what the rules give for its inputs.
+use mathlib.Core.Path.{_≡_}
+use mathlib.Core.List.{List, [], _∷_}
+use Prim.Native.Nat.{ℕ}
+use lib.IntN.{ℤ, pos, negsuc}
+use lib.ListN.{length, replicate}
+use Rattle.std.specs.Iters.{counting}
+use Rattle.std.specs.declared.result.Result.the-variants.{Ok}
+use Rattle.sharing.specs.Outcomes.{outcome, parts-after}
+
+-- z by the weights ws, at accounts from 1 on, gives the parts ps, and u is not shared
+pub record Shares (z : ℤ) (ws ps : List ℤ) (u : ℤ) : Type 0 where
+  pub answer : outcome z ws (counting 1 (length ws)) (length ws) ≡ Ok u
+  pub parts : parts-after z ws (counting 1 (length ws)) (replicate (length ws) (pos 99)) ≡ ps
+
+pub record WorkedFigures : Type 0 where
+  -- 1,500 by 6,000 and 20,000 gives 346 and 1,154
+  pub short-energy : Shares (pos 1500) (pos 6000 ∷ pos 20000 ∷ []) (pos 346 ∷ pos 1154 ∷ []) (pos 0)
+  -- −2,050 by 2,200 and 1,600 gives −1,187 and −863
+  pub over-delivery : Shares (negsuc 2049) (pos 2200 ∷ pos 1600 ∷ []) (negsuc 1186 ∷ negsuc 862 ∷ []) (pos 0)
+  -- 2 by 1, 1, 1 gives 1, 1, 0
+  pub tie : Shares (pos 2) (pos 1 ∷ pos 1 ∷ pos 1 ∷ []) (pos 1 ∷ pos 1 ∷ pos 0 ∷ []) (pos 0)
+  -- 7 by −3 and 0 is not shared
+  pub no-weight : Shares (pos 7) (negsuc 2 ∷ pos 0 ∷ []) (pos 0 ∷ pos 0 ∷ []) (pos 7)
