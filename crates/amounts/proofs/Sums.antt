@@ -47,6 +47,9 @@ pub countTo-le : (p : ℕ → Bool) (n : ℕ) → countTo p n ≤ n
 countTo-le p zero = omega arith
 countTo-le p (suc n) = let h = countTo-le p n in grind arith
 
+pub sumZTo-more : (f : ℕ → ℤ) (n : ℕ) → sumZTo f (n + 1) ≡ sumZTo f n +ℤ f n
+sumZTo-more f n = ap (sumZTo f) (add-one n)
+
 pub sumZTo-ext : (f g : ℕ → ℤ) (n : ℕ) → ((i : ℕ) → i < n → f i ≡ g i) → sumZTo f n ≡ sumZTo g n
 sumZTo-ext f g zero h = refl
 sumZTo-ext f g (suc n) h = ap₂ _+ℤ_ (sumZTo-ext f g n (λ i l. h i (omega arith))) (h n (omega arith))

@@ -4,5 +4,4 @@ ghost use Rattle.figures.specs.Figures.{WorkedFigures};
 // Every row of the table holds. There is nothing to compute: the crate is proved only if the table is.
 pub fn figures_hold()
     ensures { λ _. ⌜ WorkedFigures ⌝ }
-{
-}
+{}
