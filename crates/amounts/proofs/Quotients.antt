@@ -4,7 +4,7 @@ use mathlib.Core.Logic.{_⊎_, inl, inr}
 use mathlib.Core.Bool.{Bool, true, false}
 use Prim.Native.Nat.{ℕ, zero, suc, _+_, _-_, _*_, _/_, _%_, _<_, _≤_}
 use native.Mathlib.Omega.{arith}
-use native.Mathlib.Nat.{div-le-self, mod-le, div-add-mod, mod-lt, mul-le-mul-right}
+use native.Mathlib.Nat.{mod-le, div-add-mod, mod-lt, mul-le-mul-right}
 use lib.Dec.{leb}
 use lib.IntN.{ℤ, pos, negsuc, negℤ, natAbs, _+ℤ_, _-ℤ_, _*ℤ_}
 use lib.Signed.{quotZ}
@@ -127,10 +127,6 @@ rounded-law z d some =
 pub quotZ-cut : (z : ℤ) (d : ℕ) → quotZ z (pos d) ≡ quotient-cut z d
 quotZ-cut (pos a) d = refl
 quotZ-cut (negsuc a) d = refl
-
-pub cut-fits : (z : ℤ) (d : ℕ) → SFits w64 z → SFits w64 (quotient-cut z d)
-cut-fits (pos a) d f = let l = div-le-self a d in record { sfits = omega (arith, f .sfits, l) }
-cut-fits (negsuc a) d f = let l = div-le-self (suc a) d in omega (arith, ints, l)
 
 -- one more, away from zero
 pub away : (z : ℤ) (m : ℕ) → 0 < natAbs z → with-sign z m +ℤ signZ z ≡ with-sign z (m + 1)

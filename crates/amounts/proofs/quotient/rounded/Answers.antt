@@ -6,6 +6,7 @@ use mir.Syntax.{w64}
 use mir.Val.{toZ, ofZ, SFits}
 use Rattle.std.specs.Numbers.{signZ}
 use Rattle.std.proofs.shelf.Signed.{toZ-ofZ}
+use Rattle.std.proofs.shelf.Tests.{leb-true, leb-false}
 use Rattle.amounts.specs.Quotients.{Rounded, with-sign, quotient-cut, quotient-rounded}
 use Rattle.amounts.proofs.Quotients.{down, up, away, up-fits, not-zero, rounded-law, rounded-only}
 use Rattle.amounts.proofs.quotient.rounded.Needs as need
@@ -27,22 +28,24 @@ sum-is z q s d fz fq fs eq es l =
     (toZ-ofZ w64 s fs ∙ es ∙ ap signZ (toZ-ofZ w64 z fz))
     ∙ away z (natAbs z / d) l
 
-pub returns-then-remainder-get : need.returns-then-remainder-get
-returns-then-remainder-get c =
+pub returns-else-reaches-half : need.returns-else-reaches-half
+returns-else-reaches-half c =
     let z = c .args .amount in
     let d = c .args .divisor .value in
     let zed = toZ-ofZ w64 z (c .fits .amount) in
     let rest : c .unsigned-abs .result % c .get .result ≡ natAbs z % d = ap₂ (λ x y. x % y) (c .unsigned-abs .ensures .value ∙ ap natAbs zed) (c .get .ensures) in
+    let low = leb-false _ _ (sym (c .reaches-half .ensures) ∙ c .if-reaches-half .left) in
     owed z d _ (c .args .divisor .positive)
     (toZ-ofZ w64 (c .cut-quotient .result) (record { sfits = c .cut-quotient .ok }) ∙ c .cut-quotient .ensures .value ∙ ap (λ x. quotient-cut x d) zed
-    ∙ sym (down z d (omega (arith, rest, c .if-remainder-get .taken, c .get-2 .ensures))))
+    ∙ sym (down z d (omega (arith, rest, low, c .get-2 .ensures))))
 
 -- where the sum is taken, twice the remainder reaches the divisor
 reached : (c : need.After-signum) → c .args .divisor .value ≤ 2 * (natAbs (c .args .amount) % c .args .divisor .value)
 reached c =
     let rest : c .unsigned-abs .result % c .get .result ≡ natAbs (c .args .amount) % c .args .divisor .value =
     ap₂ (λ x y. x % y) (c .unsigned-abs .ensures .value ∙ ap natAbs (toZ-ofZ w64 (c .args .amount) (c .fits .amount))) (c .get .ensures) in
-    omega (arith, rest, c .if-remainder-get .left, c .get-2 .ensures)
+    let high = leb-true _ _ (sym (c .reaches-half .ensures) ∙ c .if-reaches-half .taken) in
+    omega (arith, rest, high, c .get-2 .ensures)
 
 summed : (c : need.After-signum) → toZ w64 (ofZ w64 (c .cut-quotient .result)) +ℤ toZ w64 (ofZ w64 (c .signum .result)) ≡ with-sign (c .args .amount) (natAbs (c .args .amount) / c .args .divisor .value + 1)
 summed c =
@@ -56,8 +59,8 @@ fits c = up-fits (c .args .amount) (c .args .divisor .value) (c .args .divisor .
 pub add-result : need.add-result
 add-result c = subst (SFits w64) (sym (summed c)) (fits c)
 
-pub returns-else-remainder-get : need.returns-else-remainder-get
-returns-else-remainder-get c =
+pub returns-then-reaches-half : need.returns-then-reaches-half
+returns-then-reaches-half c =
     let z = c .args .amount in
     let d = c .args .divisor .value in
     owed z d _ (c .args .divisor .positive)
