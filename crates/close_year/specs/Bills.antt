@@ -9,6 +9,9 @@ use Rattle.close_year.specs.declared.bill.Billed.{Billed}
 abbrev pub pence-of : Billed → ℤ
 pence-of b = b .pence
 
+abbrev pub account-of : Billed → ℕ
+account-of b = b .account
+
 abbrev pub billed : List Billed → ℕ → ℤ
 billed bs n = sumZTo (λ i. getD (map pence-of bs) i (pos 0)) n
 

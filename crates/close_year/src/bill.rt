@@ -4,9 +4,9 @@ use sharing::AccountLine;
 use sharing::Weighted;
 
 #[derive(Clone, Copy)]
-pub struct Billed {
-    pub account: u8,
-    pub pence: i64,
+pub(crate) struct Billed {
+    pub(crate) account: u8,
+    pub(crate) pence: i64,
 }
 
 pub impl Weighted for Billed as BilledWeighted {

@@ -1,23 +1,25 @@
 // The exact proportion of an amount, to be printed: whole units, and what remains over the total weight.
 ghost use mathlib.Core.Path.{_≡_};
 ghost use Prim.Native.Nat.{_+_, _*_, _<_};
-ghost use lib.IntN.{natAbs};
+ghost use lib.Dec.{ltb};
+ghost use lib.IntN.{pos, natAbs};
+ghost use lib.Signed.{ltZ};
 ghost use Rattle.std.specs.Options.{Cases};
 use amounts::Divisor;
 use std::fmt;
 
 #[derive(Clone, Copy)]
-pub struct ExactShare {
-    pub negative: bool,
-    pub quotient: u64,
-    pub remainder: u64,
-    pub total: u64,
+pub(crate) struct ExactShare {
+    pub(crate) negative: bool,
+    pub(crate) quotient: u64,
+    pub(crate) remainder: u64,
+    pub(crate) total: u64,
 }
 
 impl ExactShare {
     // `amount` times `weight` over `total`, if the product fits.
-    pub fn of(amount: i64, weight: u64, total: Divisor) -> Option<ExactShare>
-        ensures { λ r. ⌜ Cases r (Unit {0}) (λ s. (s .quotient * total .value + s .remainder ≡ natAbs amount * weight) × (s .remainder < total .value)) ⌝ }
+    pub(crate) fn of(amount: i64, weight: u64, total: Divisor) -> Option<ExactShare>
+        ensures { λ r. ⌜ Cases r (Unit {0}) (λ s. (s .quotient * total .value + s .remainder ≡ natAbs amount * weight) × (s .remainder < total .value) × (s .total ≡ total .value) × (s .negative ≡ ltZ amount (pos 0))) ⌝ }
     {
         let Some(product) = amount.unsigned_abs().checked_mul(weight) else {
             return None;
@@ -31,8 +33,10 @@ impl ExactShare {
         })
     }
 
-    // Whether a part of that size is one unit more than the whole units.
-    pub fn is_exceeded_by(&self, part: i64) -> bool {
+    // Whether a part has more than the whole units.
+    pub(crate) fn is_exceeded_by(&self, part: i64) -> bool
+        ensures { λ r. ⌜ r ≡ ltb (now (self .entry) .quotient) (natAbs part) ⌝ }
+    {
         part.unsigned_abs() > self.quotient
     }
 }

@@ -55,7 +55,12 @@ fn print_head(rt: &impl Print, title: &str, cost: i64, sums: &Reconciled) -> io:
 }
 
 // Shares the discrepancy of one supplier's bill over two operators, and prints how.
-pub fn report(rt: &impl Print, title: &str, cost: i64, bills: &[Billed; 2]) -> io::Result<()> {
+pub(crate) fn report(
+    rt: &impl Print,
+    title: &str,
+    cost: i64,
+    bills: &[Billed; 2],
+) -> io::Result<()> {
     let mut parts = [0i64; 2];
     let sums = match reconcile(cost, bills, &mut parts) {
         Ok(sums) => sums,

@@ -1,4 +1,4 @@
-use mathlib.Core.Path.{_≡_, sym, ap, _∙_}
+use mathlib.Core.Path.{_≡_, sym, ap, subst, _∙_}
 use mathlib.Core.List.{map}
 use native.Mathlib.Omega.{arith}
 use lib.IntN.{ℤ, pos, _+ℤ_, _-ℤ_}
@@ -10,7 +10,8 @@ use Rattle.std.proofs.shelf.Lists.{length-map}
 use Rattle.std.proofs.shelf.Signed.{toZ-ofZ, ints}
 use Rattle.std.proofs.shelf.Tests.{true≢false}
 use Rattle.sharing.specs.Shares.{counting-weight}
-use Rattle.close_year.specs.Bills.{billed, adjusted, pence-of}
+use Rattle.sharing.specs.Laws.{FairShare}
+use Rattle.close_year.specs.Bills.{billed, adjusted, pence-of, account-of}
 use Rattle.close_year.proofs.reconcile.reconcile.Needs as need
 
 pub returns : need.returns
@@ -27,5 +28,6 @@ returns c =
     record {
       meets = omega (arith, ints, shared, total, less);
       figures = (toZ-ofZ w64 (c .in-Some .billed) b ∙ total, omega (arith, ints, less));
+      fair = subst (λ u. FairShare (toZ w64 (ofZ w64 (c .in-Some-checked-sub .discrepancy))) (map counting-weight (map pence-of bs)) (map account-of bs) u (λ i. getD (c .share .last .parts) i (pos 0))) (sym (toZ-ofZ w64 (c .in-Continue-unshared .unshared) u)) (c .in-Continue-unshared .ensures tt .fair);
       refused = λ e. absurd (true≢false e);
     }
