@@ -1,8 +1,8 @@
 -- Laws of lines in the order of their keys. Assumes nothing.
 use mathlib.Core.Path.{_≡_, refl, sym, ap, subst, _∙_}
 use mathlib.Core.Logic.{inl, inr}
-use mathlib.Core.Bool.{Bool, true, false, cond}
-use mathlib.Core.List.{List, [], _∷_, _++_}
+use mathlib.Core.Bool.{true, false, cond}
+use mathlib.Core.List.{List, [], _∷_}
 use Prim.Native.Nat.{ℕ, zero, suc, _+_, _<_, _≤_}
 use native.Mathlib.Nat.{le-of-suc-le-suc}
 use native.Mathlib.Omega.{arith}
@@ -10,12 +10,11 @@ use lib.Dec.{eqb, ltb}
 use lib.ListN.{length, getD, set, take, drop}
 use Rattle.std.proofs.shelf.Elements.{all-append, all-take, all-drop, all-set, all-weaker, all-has, all-getD, has-append-left, has-append-right, has-push}
 use Rattle.std.proofs.shelf.Lists.{at-drop-more, at-drop-all}
-use Rattle.std.proofs.shelf.Tests.{eq-eqb, ltb-true, ltb-false, lt-ltb, le-ltb, ne-eqb, eqb-true, cond-true, cond-false, cond-both, cases-order}
+use Rattle.std.proofs.shelf.Tests.{eq-eqb, ltb-true, ltb-false, lt-ltb, le-ltb, eqb-true, cond-true, cond-false, cond-both, cases-order}
 use Rattle.std.proofs.shelf.Ways.{tells}
 use Rattle.std.specs.Holes.{inserted}
 use Rattle.std.specs.Options.{isSome}
 use Rattle.std.specs.shelf.Lists.{All, Has}
-use Rattle.std.specs.declared.option.Option.{Option}
 use Rattle.std.specs.declared.option.Option.the-variants.{Some, None}
 use Rattle.lines.specs.Lookups.{Rising, lookup, insertion-point, with-line, with-replaced}
 use Rattle.lines.specs.Laws.{LineOf, OneLinePerKey}

@@ -1,7 +1,5 @@
 -- The fields of a line are in range, and its key fields fit their widths. Assumes nothing.
-use mathlib.Core.Path.{_≡_}
-use mathlib.Core.Bool.{true}
-use Prim.Native.Nat.{ℕ, _^_, _<_, _≤_}
+use Prim.Native.Nat.{_<_, _≤_}
 use native.Mathlib.Omega.{arith}
 use Rattle.std.proofs.shelf.Ways.{tells}
 use Rattle.amounts.specs.Ranges.{accounts, areas, first-band, last-band, max-price}
@@ -14,8 +12,8 @@ use Rattle.lines.specs.declared.loss.LossLine.{LossLine}
 use Rattle.lines.specs.declared.infill.InfillLine.{InfillLine}
 use Rattle.lines.specs.declared.tariff.TariffLine.{TariffLine}
 use Rattle.lines.specs.Kinds.{electricity-number, kind-number}
-use Rattle.lines.specs.Limits.{categories, min-power-factor, max-power-factor, max-rate, max-discount, max-loss, max-infill, max-regeneration, category-in-range, loss-in-range, infill-in-range, tariff-in-range}
-use Rattle.lines.specs.Keys.{Fit, category-widths, loss-widths, infill-widths, tariff-widths, category-fields, loss-fields, infill-fields, tariff-fields}
+use Rattle.lines.specs.Limits.{min-power-factor, max-power-factor, max-rate, max-discount, max-loss, max-infill, max-regeneration}
+use Rattle.lines.specs.Keys.{Fit, category-widths, loss-widths, infill-widths, tariff-widths}
 use Rattle.lines.specs.Tables.{fields-of-category, fields-of-loss, fields-of-infill, fields-of-tariff}
 
 pub category-ranges : (l : CategoryLine) → (min-power-factor ≤ l .«power_factor») × (l .«power_factor» ≤ max-power-factor) × (l .rate ≤ max-rate) × (l .discount ≤ max-discount)

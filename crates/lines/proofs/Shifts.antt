@@ -1,10 +1,10 @@
 -- A loop that moves the lines of a list up by one, from the last to a position. Assumes nothing.
-use mathlib.Core.Path.{_≡_, refl, sym, ap, subst, _∙_}
+use mathlib.Core.Path.{_≡_, sym, ap, _∙_}
 use mathlib.Core.List.{List, [], _∷_, _++_}
-use Prim.Native.Nat.{ℕ, suc, _+_, _-_, _<_, _≤_}
+use Prim.Native.Nat.{ℕ, _+_, _-_, _<_, _≤_}
 use native.Mathlib.Omega.{arith}
 use lib.ListN.{length, getD, set, take, drop, take-append-drop}
-use Rattle.std.proofs.shelf.Lists.{append-assoc, take-more, drop-more, take-all, drop-all, take-take, take-at, drop-at, drop-drop, set-at, getD-take, getD-append-left, length-take-le, length-drop, length-append}
+use Rattle.std.proofs.shelf.Lists.{append-assoc, take-more, drop-more, drop-all, take-take, take-at, drop-at, drop-drop, set-at, getD-take, getD-append-left, length-take-le, length-drop, length-append}
 use Rattle.std.specs.Holes.{inserted}
 
 module _ {L : Type 0} (xs : List L) (n : ℕ) where

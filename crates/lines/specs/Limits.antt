@@ -1,7 +1,7 @@
 -- The ranges of the fields of a line.
 use mathlib.Core.Bool.{Bool, _&&_}
 use Prim.Native.Nat.{ℕ}
-use lib.Dec.{leb, ltb}
+use lib.Dec.{leb}
 use Rattle.amounts.specs.Ranges.{account-exists, area-exists, band-exists, price-in-range}
 use Rattle.lines.specs.declared.kinds.MeteredKind.{MeteredKind}
 use Rattle.lines.specs.declared.kinds.MeteredKind.the-variants.{MultipleUnitJourney, HauledJourney, NonJourney}

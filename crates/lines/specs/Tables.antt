@@ -10,7 +10,7 @@ use Rattle.lines.specs.declared.category.CategoryLine.{CategoryLine}
 use Rattle.lines.specs.declared.loss.LossLine.{LossLine}
 use Rattle.lines.specs.declared.infill.InfillLine.{InfillLine}
 use Rattle.lines.specs.declared.tariff.TariffLine.{TariffLine}
-use Rattle.lines.specs.Keys.{key-of, before, same, category-fields, loss-fields, infill-fields, tariff-fields, category-widths, loss-widths, infill-widths, tariff-widths}
+use Rattle.lines.specs.Keys.{key-of, before, same, category-fields, loss-fields, infill-fields, tariff-fields}
 use Rattle.lines.specs.Lookups.{Rising}
 use Rattle.lines.specs.Laws.{LineOf}
 

@@ -1,5 +1,5 @@
 use mathlib.Core.Path.{_≡_}
-use Prim.Native.Nat.{_-_, _≤_}
+use Prim.Native.Nat.{_-_}
 use native.Mathlib.Omega.{arith}
 use Rattle.lines.proofs.Shifts.{shifted-none, come-more, come-front, come-rest}
 use Rattle.lines.proofs.position.insert.Needs as need

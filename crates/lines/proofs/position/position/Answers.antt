@@ -1,11 +1,8 @@
-use mathlib.Core.Path.{_≡_, _∙_}
+use mathlib.Core.Path.{_∙_}
 use mathlib.Core.Bool.{cond}
-use Prim.Native.Nat.{_+_, suc}
 use lib.Dec.{ltb}
-use lib.ListN.{drop}
 use native.Mathlib.Omega.{arith}
 use Rattle.std.proofs.shelf.Tests.{cond-true, cond-false, lt-ltb, le-ltb}
-use Rattle.lines.specs.Lookups.{insertion-point}
 use Rattle.lines.proofs.Lookups.{point-more, point-all}
 use Rattle.lines.proofs.position.position.Needs as need
 

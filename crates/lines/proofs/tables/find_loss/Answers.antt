@@ -1,4 +1,3 @@
-use mathlib.Core.Path.{_≡_, ap, _∙_}
 use Rattle.lines.specs.Contents.{contents}
 use Rattle.lines.specs.Keys.{Fit, loss-widths, loss-fields}
 use Rattle.lines.specs.Tables.{fields-of-loss}

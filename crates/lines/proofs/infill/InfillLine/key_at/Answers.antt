@@ -1,4 +1,3 @@
-use native.Mathlib.Omega.{arith}
 use borrow.Author.Needs.{needs}
 use Rattle.lines.specs.Keys.{infill-widths}
 use Rattle.lines.proofs.Keys.{keys-follow-fields, kinds-distinct}

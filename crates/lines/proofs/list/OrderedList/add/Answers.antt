@@ -1,15 +1,13 @@
-use mathlib.Core.Path.{_≡_, refl, sym, ap, subst, _∙_}
+use mathlib.Core.Path.{refl, sym, ap, _∙_}
 use mathlib.Core.Bool.{false}
 use mathlib.Core.List.{List}
-use Prim.Native.Nat.{_+_, _<_, _≤_}
+use Prim.Native.Nat.{_<_}
 use native.Mathlib.Omega.{arith}
 use borrow.Author.Needs.{needs}
 use lib.ListN.{length, take, drop}
 use Rattle.std.specs.Holes.{inserted}
-use Rattle.std.specs.Options.{isSome}
 use Rattle.std.proofs.shelf.Lists.{length-take}
 use Rattle.lines.specs.Contents.{contents, memory}
-use Rattle.lines.specs.Lookups.{lookup, insertion-point, with-line}
 use Rattle.lines.proofs.Calls.{found-in, point-in, accepts, added-rising, added-finds, take-count, drop-count}
 use Rattle.lines.proofs.list.OrderedList.add.Needs as need
 

@@ -1,4 +1,4 @@
-use mathlib.Core.Path.{_≡_, sym, ap, subst, _∙_}
+use mathlib.Core.Path.{sym, ap, subst, _∙_}
 use Rattle.lines.specs.Contents.{contents}
 use Rattle.lines.specs.Lookups.{Rising, lookup}
 use Rattle.lines.specs.Laws.{LineOf}

@@ -1,14 +1,11 @@
-use mathlib.Core.Path.{_≡_, refl, sym, ap, subst, _∙_}
+use mathlib.Core.Path.{refl, ap, _∙_}
 use mathlib.Core.Bool.{true}
-use mathlib.Core.List.{List}
 use Prim.Native.Nat.{_<_}
 use native.Mathlib.Omega.{arith}
 use lib.ListN.{length, set, take}
 use lib.Seq.{take-set-lt}
-use Rattle.std.specs.Options.{isSome}
 use Rattle.std.proofs.shelf.Lists.{length-set, drop-set-lt}
 use Rattle.lines.specs.Contents.{contents, memory}
-use Rattle.lines.specs.Lookups.{lookup, insertion-point}
 use Rattle.lines.proofs.Calls.{found-in, point-in, found-at, replaces, replaced-rising, replaced-finds}
 use Rattle.lines.proofs.list.OrderedList.replace.Needs as need
 
