@@ -18,8 +18,8 @@ use lines::UnitKind;
 use lines::find_category;
 
 #[derive(Clone, Copy)]
-pub struct RateInfill<'a> {
-    categories: &'a OrderedList<'a, CategoryLine>,
+pub struct RateInfill<'t, 'm> {
+    categories: &'t OrderedList<'m, CategoryLine>,
     speed: Speed,
 }
 
@@ -61,8 +61,8 @@ fn regeneration_of(consumption: u32, discount: u16) -> u32
     rounded_quotient(discounted, Divisor::TEN_THOUSANDTHS) as u32
 }
 
-impl<'a> RateInfill<'a> {
-    pub fn new(categories: &'a OrderedList<'a, CategoryLine>, speed: Speed) -> Self
+impl<'t, 'm> RateInfill<'t, 'm> {
+    pub fn new(categories: &'t OrderedList<'m, CategoryLine>, speed: Speed) -> Self
         ensures categories { λ r. ⌜ now (r .categories) ≡ now (categories .entry) ⌝ }
         ensures speed { λ r. ⌜ r .speed .value ≡ speed .value ⌝ }
         ensures law { λ _. ⌜ RateTable (contents (now (categories .entry))) (speed .value) ⌝ }
@@ -71,7 +71,7 @@ impl<'a> RateInfill<'a> {
     }
 }
 
-pub impl<'a> InfillBook for RateInfill<'a> as RateInfillBook {
+pub impl<'t, 'm> InfillBook for RateInfill<'t, 'm> as RateInfillBook {
     ghost values = { λ b kind category area band. rate-of (contents (now (b .categories))) (b .speed .value) kind category area band };
 
     fn values(&self, kind: MeteredKind, category: u16, _area: u8, _band: u8) -> Option<SlotValues> {

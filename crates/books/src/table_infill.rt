@@ -11,12 +11,12 @@ use lines::OrderedList;
 use lines::find_infill;
 
 #[derive(Clone, Copy)]
-pub struct TableInfill<'a> {
-    table: &'a OrderedList<'a, InfillLine>,
+pub struct TableInfill<'t, 'm> {
+    table: &'t OrderedList<'m, InfillLine>,
 }
 
-impl<'a> TableInfill<'a> {
-    pub fn new(table: &'a OrderedList<'a, InfillLine>) -> Self
+impl<'t, 'm> TableInfill<'t, 'm> {
+    pub fn new(table: &'t OrderedList<'m, InfillLine>) -> Self
         ensures table { λ r. ⌜ now (r .table) ≡ now (table .entry) ⌝ }
         ensures law { λ _. ⌜ InfillTable (contents (now (table .entry))) ⌝ }
     {
@@ -24,7 +24,7 @@ impl<'a> TableInfill<'a> {
     }
 }
 
-pub impl<'a> InfillBook for TableInfill<'a> as TableInfillBook {
+pub impl<'t, 'm> InfillBook for TableInfill<'t, 'm> as TableInfillBook {
     ghost values = { λ b kind category area band. infill-of (contents (now (b .table))) kind category area band };
 
     fn values(&self, kind: MeteredKind, category: u16, area: u8, band: u8) -> Option<SlotValues> {

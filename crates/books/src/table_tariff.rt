@@ -10,12 +10,12 @@ use lines::TariffLine;
 use lines::find_tariff;
 
 #[derive(Clone, Copy)]
-pub struct TableTariff<'a> {
-    table: &'a OrderedList<'a, TariffLine>,
+pub struct TableTariff<'t, 'm> {
+    table: &'t OrderedList<'m, TariffLine>,
 }
 
-impl<'a> TableTariff<'a> {
-    pub fn new(table: &'a OrderedList<'a, TariffLine>) -> Self
+impl<'t, 'm> TableTariff<'t, 'm> {
+    pub fn new(table: &'t OrderedList<'m, TariffLine>) -> Self
         ensures table { λ r. ⌜ now (r .table) ≡ now (table .entry) ⌝ }
         ensures law { λ _. ⌜ TariffTable (contents (now (table .entry))) ⌝ }
     {
@@ -23,7 +23,7 @@ impl<'a> TableTariff<'a> {
     }
 }
 
-pub impl<'a> TariffBook for TableTariff<'a> as TableTariffBook {
+pub impl<'t, 'm> TariffBook for TableTariff<'t, 'm> as TableTariffBook {
     ghost prices = { λ b account area band. tariff-of (contents (now (b .table))) account area band };
 
     fn prices(&self, account: u8, area: u8, band: u8) -> Option<Prices> {
