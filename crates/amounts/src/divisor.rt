@@ -20,6 +20,7 @@ impl Divisor {
     // Watt-hours in a kilowatt-hour.
     pub const WH_PER_KWH: Divisor = Divisor { value: 1_000 };
 
+    // Hundredths and ten-thousandths in a whole.
     pub const HUNDREDTHS: Divisor = Divisor { value: 100 };
 
     pub const TEN_THOUSANDTHS: Divisor = Divisor { value: 10_000 };

@@ -1,12 +1,10 @@
 -- The line with given key fields is the one with their key, over any widths. Assumes nothing.
-use mathlib.Core.Path.{_≡_, refl, sym, ap, ap₂, subst, _∙_}
-use mathlib.Core.Bool.{true, false, cond}
+use mathlib.Core.Path.{_≡_, refl, sym, ap, ap₂, _∙_}
+use mathlib.Core.Bool.{true, cond}
 use mathlib.Core.List.{List, [], _∷_}
 use Prim.Native.Nat.{ℕ}
-use native.Mathlib.Omega.{arith}
 use lib.Dec.{eqb, ltb}
-use Rattle.std.proofs.shelf.Elements.{has-append-left, has-append-right, has-push}
-use Rattle.std.proofs.shelf.Tests.{and-parts, eqb-true, cond-both}
+use Rattle.std.proofs.shelf.Tests.{and-parts, eqb-true}
 use Rattle.std.specs.shelf.Lists.{Has}
 use Rattle.std.specs.declared.option.Option.{Option}
 use Rattle.std.specs.declared.option.Option.the-variants.{Some, None}
@@ -15,7 +13,7 @@ use Rattle.lines.specs.Lookups.{Rising, lookup}
 use Rattle.lines.specs.Laws.{LineOf}
 use Rattle.lines.specs.Tables.{line-with, LineOfFields}
 use Rattle.lines.proofs.Keys.{in-order, same-both, same-fields}
-use Rattle.lines.proofs.Lookups.{line-of-key}
+use Rattle.lines.proofs.Lookups.{scan-one-of, scan-none, line-of-key}
 
 same-true : (fs gs : List ℕ) → same fs gs ≡ true → fs ≡ gs
 same-true [] [] e = refl
@@ -27,25 +25,12 @@ same-true (f ∷ fs) (g ∷ gs) e =
 
 -- ---- fields of any size
 module _ {L : Type 0} (fields : L → List ℕ) (fs : List ℕ) where
-  first-with : (x : L) (xs : List L) (l : L) → cond (same (fields x) fs) (Some x) None ≡ Some l → Has (x ∷ xs) l × (fields l ≡ fs)
-  first-with x xs l = cond-both (same (fields x) fs) (Some x) None (λ o. o ≡ Some l → Has (x ∷ xs) l × (fields l ≡ fs))
-      (λ t e. let this : x ≡ l = cc in subst (λ y. Has (x ∷ xs) y × (fields y ≡ fs)) this (has-append-left (x ∷ []) xs x (has-push [] x), same-true (fields x) fs t))
-      (λ t e. let y : _≡_ {A = ℕ} 0 1 = cc in absurd (omega arith))
-
   pub line-with-one-of : (xs : List L) (l : L) → line-with fields fs xs ≡ Some l → Has xs l × (fields l ≡ fs)
-  line-with-one-of [] l e = let y : _≡_ {A = ℕ} 0 1 = cc in absurd (omega arith)
-  line-with-one-of (x ∷ xs) l e =
-      elim (before (fields x) fs) as (λ b. cond b (line-with fields fs xs) (cond (same (fields x) fs) (Some x) None) ≡ Some l → Has (x ∷ xs) l × (fields l ≡ fs)) [
-        | true ↦ λ e. (let h = line-with-one-of xs l e in (has-append-right (x ∷ []) xs l (h .0), h .1))
-        | false ↦ λ e. first-with x xs l e
-      ] e
+  line-with-one-of xs l e = let h = scan-one-of (λ x. before (fields x) fs) (λ x. same (fields x) fs) xs l e in (h .0, same-true (fields l) fs (h .1))
 
   -- fields that no line has
   pub line-with-none : (xs : List L) → ((l : L) → Has xs l → fields l ≡ fs → ⊥) → line-with fields fs xs ≡ None
-  line-with-none xs lacks = elim (line-with fields fs xs) as (λ o. ((l : L) → o ≡ Some l → Has xs l × (fields l ≡ fs)) → o ≡ None) [
-    | None ↦ λ _. refl
-    | Some l ↦ λ one. absurd (lacks l (one l refl .0) (one l refl .1))
-  ] (line-with-one-of xs)
+  line-with-none xs lacks = scan-none (λ x. before (fields x) fs) (λ x. same (fields x) fs) xs (λ l h t. lacks l h (same-true (fields l) fs t))
 
 -- ---- fields that fit their widths
 module _ {L : Type 0} (ws : List ℕ) (fields : L → List ℕ) (fit : (l : L) → Fit ws (fields l)) (fs : List ℕ) (fits : Fit ws fs) where

@@ -1,7 +1,7 @@
 -- Laws of lines in the order of their keys. Assumes nothing.
 use mathlib.Core.Path.{_≡_, refl, sym, ap, subst, _∙_}
 use mathlib.Core.Logic.{inl, inr}
-use mathlib.Core.Bool.{true, false, cond}
+use mathlib.Core.Bool.{Bool, true, false, cond}
 use mathlib.Core.List.{List, [], _∷_}
 use Prim.Native.Nat.{ℕ, zero, suc, _+_, _<_, _≤_}
 use native.Mathlib.Nat.{le-of-suc-le-suc}
@@ -16,8 +16,29 @@ use Rattle.std.specs.Holes.{inserted}
 use Rattle.std.specs.Options.{isSome}
 use Rattle.std.specs.shelf.Lists.{All, Has}
 use Rattle.std.specs.declared.option.Option.the-variants.{Some, None}
-use Rattle.lines.specs.Lookups.{Rising, lookup, insertion-point, with-line, with-replaced}
+use Rattle.lines.specs.Lookups.{Rising, scan, lookup, insertion-point, with-line, with-replaced}
 use Rattle.lines.specs.Laws.{LineOf, OneLinePerKey}
+
+-- ---- what a scan finds is one of the lines, and has what is wanted
+module _ {L : Type 0} (comes-before has : L → Bool) where
+  first-one-of : (x : L) (xs : List L) (l : L) → cond (has x) (Some x) None ≡ Some l → Has (x ∷ xs) l × (has l ≡ true)
+  first-one-of x xs l = cond-both (has x) (Some x) None (λ o. o ≡ Some l → Has (x ∷ xs) l × (has l ≡ true))
+      (λ t e. let this : x ≡ l = cc in subst (λ y. Has (x ∷ xs) y × (has y ≡ true)) this (has-append-left (x ∷ []) xs x (has-push [] x), t))
+      (λ t e. let y : _≡_ {A = ℕ} 0 1 = cc in absurd (omega arith))
+
+  pub scan-one-of : (xs : List L) (l : L) → scan comes-before has xs ≡ Some l → Has xs l × (has l ≡ true)
+  scan-one-of [] l e = let y : _≡_ {A = ℕ} 0 1 = cc in absurd (omega arith)
+  scan-one-of (x ∷ xs) l e =
+      elim (comes-before x) as (λ b. cond b (scan comes-before has xs) (cond (has x) (Some x) None) ≡ Some l → Has (x ∷ xs) l × (has l ≡ true)) [
+        | true ↦ λ e. (let h = scan-one-of xs l e in (has-append-right (x ∷ []) xs l (h .0), h .1))
+        | false ↦ λ e. first-one-of x xs l e
+      ] e
+
+  pub scan-none : (xs : List L) → ((l : L) → Has xs l → has l ≡ true → ⊥) → scan comes-before has xs ≡ None
+  scan-none xs lacks = elim (scan comes-before has xs) as (λ o. ((l : L) → o ≡ Some l → Has xs l × (has l ≡ true)) → o ≡ None) [
+    | None ↦ λ _. refl
+    | Some l ↦ λ one. absurd (lacks l (one l refl .0) (one l refl .1))
+  ] (scan-one-of xs)
 
 module _ {L : Type 0} (key : L → ℕ) where
   -- ---- the insertion point
@@ -26,10 +47,6 @@ module _ {L : Type 0} (key : L → ℕ) where
 
   pub point-all : (k : ℕ) (xs : List L) (i : ℕ) → length xs ≤ i → insertion-point key k (drop i xs) ≡ 0
   point-all k xs i h = at-drop-all (insertion-point key k) xs i h
-
-  pub point-le : (k : ℕ) (xs : List L) → insertion-point key k xs ≤ length xs
-  point-le k [] = omega arith
-  point-le k (x ∷ xs) = let h = point-le k xs in cond-both (ltb (key x) k) _ _ (λ n. n ≤ suc (length xs)) (λ _. omega arith) (λ _. omega arith)
 
   -- what is found is the line at the insertion point, if it has the key
   pub lookup-at : (k : ℕ) (xs : List L) (x : L) → insertion-point key k xs < length xs → x ≡ getD xs (insertion-point key k xs) x → lookup key k xs ≡ cond (eqb (key x) k) (Some x) None
@@ -60,18 +77,8 @@ module _ {L : Type 0} (key : L → ℕ) where
   ]
 
   -- ---- what is found
-  first-found : (k : ℕ) (x : L) (xs : List L) (l : L) → cond (eqb (key x) k) (Some x) None ≡ Some l → Has (x ∷ xs) l × (key l ≡ k)
-  first-found k x xs l = cond-both (eqb (key x) k) (Some x) None (λ o. o ≡ Some l → Has (x ∷ xs) l × (key l ≡ k))
-      (λ t e. let same : x ≡ l = cc in subst (λ y. Has (x ∷ xs) y × (key y ≡ k)) same (has-append-left (x ∷ []) xs x (has-push [] x), eqb-true (key x) k t))
-      (λ t e. let y : _≡_ {A = ℕ} 0 1 = cc in absurd (omega arith))
-
   pub found-is-one-of : (k : ℕ) (xs : List L) (l : L) → lookup key k xs ≡ Some l → Has xs l × (key l ≡ k)
-  found-is-one-of k [] l e = let y : _≡_ {A = ℕ} 0 1 = cc in absurd (omega arith)
-  found-is-one-of k (x ∷ xs) l e =
-      elim (ltb (key x) k) as (λ b. cond b (lookup key k xs) (cond (eqb (key x) k) (Some x) None) ≡ Some l → Has (x ∷ xs) l × (key l ≡ k)) [
-        | true ↦ λ e. (let h = found-is-one-of k xs l e in (has-append-right (x ∷ []) xs l (h .0), h .1))
-        | false ↦ λ e. first-found k x xs l e
-      ] e
+  found-is-one-of k xs l e = let h = scan-one-of (λ x. ltb (key x) k) (λ x. eqb (key x) k) xs l e in (h .0, eqb-true (key l) k (h .1))
 
   pub rising-found : (xs : List L) → Rising key xs → (l : L) → Has xs l → (k : ℕ) → key l ≡ k → lookup key k xs ≡ Some l
   rising-found [] up l (i, h, at) k e = absurd (omega arith)
@@ -87,10 +94,7 @@ module _ {L : Type 0} (key : L → ℕ) where
   pub line-of-key : (k : ℕ) (xs : List L) → LineOf key k (Rising key xs) xs (lookup key k xs)
   line-of-key k xs = record {
     one-of = found-is-one-of k xs;
-    none = λ no. elim (lookup key k xs) as (λ o. ((l : L) → o ≡ Some l → Has xs l × (key l ≡ k)) → o ≡ None) [
-      | None ↦ λ _. refl
-      | Some l ↦ λ one. absurd (no l (one l refl .0) (one l refl .1))
-    ] (found-is-one-of k xs);
+    none = λ lacks. scan-none (λ x. ltb (key x) k) (λ x. eqb (key x) k) xs (λ l h t. lacks l h (eqb-true (key l) k t));
     found = λ up l h e. rising-found xs up l h k e;
     absent = λ up none l h e. let z = rising-found xs up l h k e in let y : _≡_ {A = ℕ} 0 1 = cc in omega arith;
   }

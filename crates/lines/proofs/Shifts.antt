@@ -57,20 +57,8 @@ module _ {L : Type 0} (xs : List L) (n : ℕ) (room : n < length xs) where
   pub shifted-rest : (p : ℕ) (x : L) → p ≤ n → drop (n + 1) (set (shifted xs n p) p x) ≡ drop 1 (drop n xs)
   shifted-rest p x le = ap (drop (n + 1)) (whole p x le) ∙ drop-at (inserted (take n xs) p x) (drop (n + 1) xs) (n + 1) (long p x le) ∙ sym (drop-drop 1 n xs)
 
-  pub length-shifted : (at : ℕ) → at ≤ n → length (shifted xs n at) ≡ length xs
-  length-shifted at le =
-      let len = length-take-le n xs (omega arith) in
-      let a = length-take-le (at + 1) xs (omega arith) in
-      let b = length-drop at (take n xs) in
-      let d = length-drop (n + 1) xs in
-      let e = length-append (drop at (take n xs)) (drop (n + 1) xs) in
-      length-append (take (at + 1) xs) (drop at (take n xs) ++ drop (n + 1) xs) ∙ omega arith
-
   -- the same, of the memory that a loop has come to
   module _ (at : ℕ) (cur : List L) (is : cur ≡ shifted xs n at) (le : at ≤ n) where
-    pub come-length : length cur ≡ length xs
-    come-length = ap length is ∙ length-shifted at le
-
     pub come-more : (a : ℕ) (x : L) → at ≡ a + 1 → x ≡ getD cur a x → set cur at x ≡ shifted xs n a
     come-more a x e read = ap (λ ys. set ys at x) is ∙ shifted-more a at x e le (read ∙ ap (λ ys. getD ys a x) is)
 

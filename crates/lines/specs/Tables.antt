@@ -1,9 +1,7 @@
 -- Tables: lists of lines of one kind, and the line that a table has for given key fields.
-use mathlib.Core.Bool.{cond}
-use mathlib.Core.List.{List, [], _∷_}
+use mathlib.Core.List.{List}
 use Prim.Native.Nat.{ℕ}
 use Rattle.std.specs.declared.option.Option.{Option}
-use Rattle.std.specs.declared.option.Option.the-variants.{Some, None}
 use Rattle.lines.specs.declared.kinds.Electricity.{Electricity}
 use Rattle.lines.specs.declared.kinds.MeteredKind.{MeteredKind}
 use Rattle.lines.specs.declared.category.CategoryLine.{CategoryLine}
@@ -11,14 +9,13 @@ use Rattle.lines.specs.declared.loss.LossLine.{LossLine}
 use Rattle.lines.specs.declared.infill.InfillLine.{InfillLine}
 use Rattle.lines.specs.declared.tariff.TariffLine.{TariffLine}
 use Rattle.lines.specs.Keys.{key-of, before, same, category-fields, loss-fields, infill-fields, tariff-fields}
-use Rattle.lines.specs.Lookups.{Rising}
+use Rattle.lines.specs.Lookups.{Rising, scan}
 use Rattle.lines.specs.Laws.{LineOf}
 
 module _ {L : Type 0} (fields : L → List ℕ) where
-  -- the line with these key fields. The lines are read from the first, as far as the first that does not come before them
+  -- the line with these key fields
   abbrev pub line-with : List ℕ → List L → Option L
-  line-with fs [] = None
-  line-with fs (x ∷ xs) = cond (before (fields x) fs) (line-with fs xs) (cond (same (fields x) fs) (Some x) None)
+  line-with fs xs = scan (λ x. before (fields x) fs) (λ x. same (fields x) fs) xs
 
   -- the keys of the lines rise
   abbrev pub RisingTable : List ℕ → List L → Type 0

@@ -12,15 +12,15 @@ use crate::kinds::UnitKind;
 use crate::line::Line;
 
 // The lowest and the highest power factor, in ten-thousandths.
-pub(crate) const MIN_POWER_FACTOR: u16 = 1;
+const MIN_POWER_FACTOR: u16 = 1;
 
-pub(crate) const MAX_POWER_FACTOR: u16 = 15_000;
+const MAX_POWER_FACTOR: u16 = 15_000;
 
 // The highest rate, in Wh.
-pub(crate) const MAX_RATE: u32 = 100_000;
+const MAX_RATE: u32 = 100_000;
 
 // The highest discount, in ten-thousandths.
-pub(crate) const MAX_DISCOUNT: u16 = 10_000;
+const MAX_DISCOUNT: u16 = 10_000;
 
 #[derive(Clone, Copy)]
 pub struct CategoryLine {

@@ -16,7 +16,7 @@ use amounts::area_exists;
 use amounts::band_exists;
 
 // The highest value for a slot.
-pub(crate) const MAX_INFILL: u32 = 2_000_000;
+const MAX_INFILL: u32 = 2_000_000;
 
 #[derive(Clone, Copy)]
 pub struct InfillLine {

@@ -14,7 +14,7 @@ use crate::line::Line;
 use amounts::area_exists;
 
 // The highest loss, in ten-thousandths.
-pub(crate) const MAX_LOSS: u16 = 5_000;
+const MAX_LOSS: u16 = 5_000;
 
 #[derive(Clone, Copy)]
 pub struct LossLine {
