@@ -1,0 +1,9 @@
+pub mod Kinds
+pub mod Limits
+pub mod Keys
+pub mod Faults
+pub mod Lookups
+pub mod Laws
+pub mod Contents
+pub mod Outcomes
+pub mod Tables

@@ -1,0 +1,41 @@
+// Ordered lists of the lines that tables of rates and prices are made of.
+mod category;
+mod fault;
+mod infill;
+mod kinds;
+mod line;
+mod list;
+mod loss;
+mod position;
+mod tables;
+mod tariff;
+#[cfg(test)]
+mod tests;
+
+pub use category::CategoryLine;
+pub use category::CategoryLineLine;
+pub use fault::ListFault;
+pub use fault::ListFaultDebug;
+pub use fault::ListFaultFault;
+pub use fault::ListFaultPartialEq;
+pub use infill::InfillLine;
+pub use infill::InfillLineLine;
+pub use kinds::Electricity;
+pub use kinds::ElectricityDebug;
+pub use kinds::ElectricityPartialEq;
+pub use kinds::MeteredKind;
+pub use kinds::MeteredKindDebug;
+pub use kinds::MeteredKindPartialEq;
+pub use kinds::UnitKind;
+pub use kinds::UnitKindDebug;
+pub use kinds::UnitKindPartialEq;
+pub use line::Line;
+pub use list::OrderedList;
+pub use loss::LossLine;
+pub use loss::LossLineLine;
+pub use tables::find_category;
+pub use tables::find_infill;
+pub use tables::find_loss;
+pub use tables::find_tariff;
+pub use tariff::TariffLine;
+pub use tariff::TariffLineLine;
