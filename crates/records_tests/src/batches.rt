@@ -10,49 +10,11 @@ use records::read_record;
 use records::records;
 use std::test::*;
 
-// A record, one of an unknown kind, another record, and a byte that is left over.
-const BATCH: [u8; 40] = [
-    13,
-    0,
-    4,
-    0,
-    1,
-    0,
-    1,
-    7,
-    0,
-    150,
-    0,
-    0,
-    0, // train miles
-    13,
-    0,
-    9,
-    0,
-    1,
-    0,
-    1,
-    7,
-    0,
-    150,
-    0,
-    0,
-    0, // kind 9
-    13,
-    0,
-    5,
-    0,
-    1,
-    0,
-    1,
-    7,
-    0,
-    150,
-    0,
-    0,
-    0, // gross tonne miles
-    13,
-];
+// Train miles, a record of the unknown kind 9, gross tonne miles, and a byte that is left over.
+const BATCH: [u8; 40] = *b"\x0d\x00\x04\x00\x01\x00\x01\x07\x00\x96\x00\x00\x00\
+    \x0d\x00\x09\x00\x01\x00\x01\x07\x00\x96\x00\x00\x00\
+    \x0d\x00\x05\x00\x01\x00\x01\x07\x00\x96\x00\x00\x00\
+    \x0d";
 
 #[test]
 fn goes_on_after_a_refused_record() -> Result<(), Fail> {

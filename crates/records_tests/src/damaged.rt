@@ -15,7 +15,7 @@ struct Change {
     slot: Option<u8>,
 }
 
-const fn change(offset: usize, byte: u8, number: u8, slot: Option<u8>) -> Change {
+const fn changed(offset: usize, byte: u8, number: u8, slot: Option<u8>) -> Change {
     Change {
         offset,
         byte,
@@ -31,27 +31,27 @@ fn next_after(number: u8) -> Option<usize> {
 #[test]
 fn one_byte_changed() -> Result<(), Fail> {
     let changes = [
-        change(0, 12, 2, None),
-        change(0, 33, 2, None),
-        change(2, 0, 3, None),
-        change(2, 6, 3, None),
-        change(3, 9, 4, None),
-        change(3, 29, 4, None),
-        change(3, 15, 5, None),
-        change(13, 11, 5, None),
-        change(9, 0, 6, None),
-        change(9, 65, 6, None),
-        change(4, 64, 7, None),
-        change(5, 20, 7, None),
-        change(6, 0, 7, None),
-        change(6, 8, 7, None),
-        change(9, 3, 8, Some(3)),
-        change(9, 1, 8, Some(1)),
-        change(23, 31, 9, Some(1)),
-        change(27, 31, 9, Some(3)),
-        change(30, 40, 10, None),
-        change(31, 0, 10, None),
-        change(31, 5, 10, None),
+        changed(0, 12, 2, None),
+        changed(0, 33, 2, None),
+        changed(2, 0, 3, None),
+        changed(2, 6, 3, None),
+        changed(3, 9, 4, None),
+        changed(3, 29, 4, None),
+        changed(3, 15, 5, None),
+        changed(13, 11, 5, None),
+        changed(9, 0, 6, None),
+        changed(9, 65, 6, None),
+        changed(4, 64, 7, None),
+        changed(5, 20, 7, None),
+        changed(6, 0, 7, None),
+        changed(6, 8, 7, None),
+        changed(9, 3, 8, Some(3)),
+        changed(9, 1, 8, Some(1)),
+        changed(23, 31, 9, Some(1)),
+        changed(27, 31, 9, Some(3)),
+        changed(30, 40, 10, None),
+        changed(31, 0, 10, None),
+        changed(31, 5, 10, None),
     ];
     for change in &changes {
         let mut record = HAULED;
@@ -67,53 +67,24 @@ fn one_byte_changed() -> Result<(), Fail> {
     Ok(())
 }
 
-// All is wrong at first, and is mended in the order of the table.
+// All is wrong at first: length, kind, map, a third bit in the slot map, quantity, account, slot 5 of four, the reading of slot 1, weight.
+// It is mended in this order, which is the table's.
 #[test]
 fn the_first_fault_of_the_table() -> Result<(), Fail> {
-    let mut record = [
-        12,
-        0,
-        0,
-        29,
-        64,
-        7,
-        3,
-        44,
-        1,
-        0,
-        0,
-        0,
-        0, // length, kind, map, account, quantity
-        34,
-        1,
-        0,
-        0,
-        0,
-        0,
-        0,
-        0, // slots 1, 5 and 8: one reading too few, and slot 5 of four
-        232,
-        3,
-        31,
-        0,
-        208,
-        7,
-        0,
-        0, // the reading of slot 1
-        244,
-        40,
-        2, // weight
-    ];
+    let mut record: [u8; 32] = *b"\x0c\x00\x00\x1d\x40\x07\x03\x2c\x01\x00\x00\x00\x00\
+        \x22\x01\x00\x00\x00\x00\x00\x00\
+        \xe8\x03\x1f\x00\xd0\x07\x00\x00\
+        \xf4\x28\x02";
     check_refused(&record, 2, None, None)?;
     let mended = [
-        change(0, 32, 3, None),
-        change(2, 2, 4, None),
-        change(3, 13, 5, None),
-        change(14, 0, 6, None),
-        change(9, 4, 7, None),
-        change(4, 5, 8, Some(5)),
-        change(13, 10, 9, Some(1)),
-        change(23, 0, 10, None),
+        changed(0, 32, 3, None),
+        changed(2, 2, 4, None),
+        changed(3, 13, 5, None),
+        changed(14, 0, 6, None),
+        changed(9, 4, 7, None),
+        changed(4, 5, 8, Some(5)),
+        changed(13, 10, 9, Some(1)),
+        changed(23, 0, 10, None),
     ];
     for change in &mended {
         check(change.offset < 32)?;

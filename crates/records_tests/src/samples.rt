@@ -10,85 +10,19 @@ use records::RecordFaultFault;
 use records::read_record;
 use std::test::*;
 
-// A hauled journey of four slots, with readings of 1,000 Wh in slot 1 and 2,000 Wh in slot 3, 500 tonnes and two locomotives.
-pub(crate) const HAULED: [u8; 32] = [
-    32,
-    0,
-    2,
-    13,
-    5,
-    7,
-    3,
-    44,
-    1,
-    4,
-    0,
-    0,
-    0, // head: account 5, area 7, band 3, category 300
-    10,
-    0,
-    0,
-    0,
-    0,
-    0,
-    0,
-    0, // slots 1 and 3
-    232,
-    3,
-    0,
-    0,
-    208,
-    7,
-    0,
-    0, // readings
-    244,
-    1,
-    2, // weight, locomotives
-];
+// A hauled journey of four slots: the head, a slot map with slots 1 and 3, their readings of 1,000 and 2,000 Wh, 500 tonnes and two locomotives.
+pub(crate) const HAULED: [u8; 32] = *b"\x20\x00\x02\x0d\x05\x07\x03\x2c\x01\x04\x00\x00\x00\
+    \x0a\x00\x00\x00\x00\x00\x00\x00\
+    \xe8\x03\x00\x00\xd0\x07\x00\x00\
+    \xf4\x01\x02";
 
-// A multiple-unit journey of three slots, with the largest reading in slot 2 of consumption and in slot 1 of regeneration.
-pub(crate) const MULTIPLE_UNIT: [u8; 37] = [
-    37,
-    0,
-    1,
-    3,
-    63,
-    19,
-    7,
-    255,
-    255,
-    3,
-    0,
-    0,
-    0, // head
-    4,
-    0,
-    0,
-    0,
-    0,
-    0,
-    0,
-    0,
-    128,
-    132,
-    30,
-    0, // consumption
-    2,
-    0,
-    0,
-    0,
-    0,
-    0,
-    0,
-    0,
-    128,
-    132,
-    30,
-    0, // regeneration
-];
+// A multiple-unit journey of three slots: the head, consumption with the largest reading in slot 2, and regeneration with it in slot 1.
+pub(crate) const MULTIPLE_UNIT: [u8; 37] = *b"\x25\x00\x01\x03\x3f\x13\x07\xff\xff\x03\x00\x00\x00\
+    \x04\x00\x00\x00\x00\x00\x00\x00\x80\x84\x1e\x00\
+    \x02\x00\x00\x00\x00\x00\x00\x00\x80\x84\x1e\x00";
 
 // 1.50 train miles.
-pub(crate) const TRAIN_MILES: [u8; 13] = [13, 0, 4, 0, 1, 0, 1, 7, 0, 150, 0, 0, 0];
+pub(crate) const TRAIN_MILES: [u8; 13] = *b"\x0d\x00\x04\x00\x01\x00\x01\x07\x00\x96\x00\x00\x00";
 
 // The record at place 0 is refused by the fault with that number, slot and next place.
 pub(crate) fn check_refused(
