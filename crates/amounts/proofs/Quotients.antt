@@ -7,10 +7,11 @@ use native.Mathlib.Omega.{arith}
 use native.Mathlib.Nat.{mod-le, div-add-mod, mod-lt, mul-le-mul-right}
 use lib.Dec.{leb}
 use lib.IntN.{ℤ, pos, negsuc, negℤ, natAbs, _+ℤ_, _-ℤ_, _*ℤ_}
-use lib.Signed.{quotZ}
+use lib.Signed.{quotZ, _<ℤ_, _≤ℤ_}
 use mir.Syntax.{w64}
 use mir.Val.{SFits}
-use borrow.Author.Differences.{ints}
+use borrow.Author.Differences.{ints, up, down}
+use Rattle.std.proofs.shelf.Signed.{by-ltZ}
 use Rattle.std.specs.Numbers.{signZ}
 use Rattle.std.proofs.shelf.Tests.{cases-lt, cases-order, le-leb, lt-leb}
 use Rattle.amounts.specs.Sums.{one}
@@ -97,11 +98,11 @@ rounded-only z r s d some p q =
       ]
     ])
 
-pub down : (z : ℤ) (d : ℕ) → 2 * (natAbs z % d) < d → quotient-rounded z d ≡ with-sign z (natAbs z / d)
-down z d l = ap (with-sign z) (omega (arith, ap one (lt-leb d (2 * (natAbs z % d)) l)))
+pub rounds-down : (z : ℤ) (d : ℕ) → 2 * (natAbs z % d) < d → quotient-rounded z d ≡ with-sign z (natAbs z / d)
+rounds-down z d l = ap (with-sign z) (omega (arith, ap one (lt-leb d (2 * (natAbs z % d)) l)))
 
-pub up : (z : ℤ) (d : ℕ) → d ≤ 2 * (natAbs z % d) → quotient-rounded z d ≡ with-sign z (natAbs z / d + 1)
-up z d l = ap (with-sign z) (omega (arith, ap one (le-leb d (2 * (natAbs z % d)) l)))
+pub rounds-up : (z : ℤ) (d : ℕ) → d ≤ 2 * (natAbs z % d) → quotient-rounded z d ≡ with-sign z (natAbs z / d + 1)
+rounds-up z d l = ap (with-sign z) (omega (arith, ap one (le-leb d (2 * (natAbs z % d)) l)))
 
 -- a size that lies near enough, and away from zero at a tie
 by-size : (z : ℤ) (d m : ℕ) → 2 * dist (m * d) (natAbs z) ≤ d → (2 * dist (m * d) (natAbs z) ≡ d → natAbs z < m * d) → (r : ℤ) → r ≡ with-sign z m → Rounded z d r
@@ -119,8 +120,8 @@ rounded-law z d some =
     let sum = div-add-mod a d in
     let low = mod-lt a some in
     elim (cases-lt (2 * (a % d)) d) [
-      | inl l ↦ by-size z d (a / d) (omega (arith, sum)) (λ e. absurd (omega (arith, sum, e))) (quotient-rounded z d) (down z d l)
-      | inr l ↦ by-size z d (a / d + 1) (omega (arith, sum, low)) (λ _. omega (arith, sum, low)) (quotient-rounded z d) (up z d l)
+      | inl l ↦ by-size z d (a / d) (omega (arith, sum)) (λ e. absurd (omega (arith, sum, e))) (quotient-rounded z d) (rounds-down z d l)
+      | inr l ↦ by-size z d (a / d + 1) (omega (arith, sum, low)) (λ _. omega (arith, sum, low)) (quotient-rounded z d) (rounds-up z d l)
     ]
 
 -- ---- the machine's signed quotient
@@ -145,3 +146,17 @@ up-fits (negsuc a) d some l f = omega (arith, ints, half (suc a) d some l)
 
 pub not-zero : (z : ℤ) (d : ℕ) → 0 < d → d ≤ 2 * (natAbs z % d) → 0 < natAbs z
 not-zero z d some l = omega (arith, mod-le (natAbs z) d)
+
+-- ---- a larger amount is never rounded to less
+apart : (a b d : ℕ) → a < b → a * d + d ≤ b * d
+apart a b d l = omega (arith, mul-le-mul-right {m = suc a} {n = b} d l)
+
+pub rounded-rises : (z y r s : ℤ) (d : ℕ) → 0 < d → z <ℤ y → Rounded z d r → Rounded y d s → r ≤ℤ s
+rounded-rises z y r s d some l p q = by-ltZ s r
+    (λ lower. absurd (omega (arith, ints, apart (up s + down r) (up r + down s) d (omega (arith, ints)), p .near, q .near)))
+    (λ e. e)
+
+pub rounded-monotone : (z y : ℤ) (d : ℕ) → 0 < d → z ≤ℤ y → quotient-rounded z d ≤ℤ quotient-rounded y d
+rounded-monotone z y d some l = by-ltZ z y
+    (λ less. rounded-rises z y (quotient-rounded z d) (quotient-rounded y d) d some less (rounded-law z d some) (rounded-law y d some))
+    (λ back. let same : z ≡ y = omega (arith, ints) in let e = ap (λ x. quotient-rounded x d) same in omega (arith, ints, e))

@@ -20,10 +20,15 @@ impl Divisor {
     // Watt-hours in a kilowatt-hour.
     pub const WH_PER_KWH: Divisor = Divisor { value: 1_000 };
 
-    // Hundredths and ten-thousandths in a whole.
     pub const HUNDREDTHS: Divisor = Divisor { value: 100 };
 
     pub const TEN_THOUSANDTHS: Divisor = Divisor { value: 10_000 };
+
+    pub const MILLIONTHS: Divisor = Divisor { value: 1_000_000 };
+
+    pub const TEN_MILLIONTHS: Divisor = Divisor { value: 10_000_000 };
+
+    pub const HUNDRED_MILLIONTHS: Divisor = Divisor { value: 100_000_000 };
 
     pub fn new(value: u64) -> Option<Divisor>
         ensures range { λ r. ⌜ isSome r ≡ (leb 1 value && leb value max-divisor) ⌝ }

@@ -3,7 +3,7 @@ ghost use mathlib.Core.Path.{_≡_};
 ghost use Prim.Native.Nat.{_*_, _≤_};
 ghost use lib.Dec.{leb};
 ghost use lib.IntN.{ℤ, pos};
-ghost use lib.Signed.{_<ℤ_, quotZ};
+ghost use lib.Signed.{_<ℤ_, _≤ℤ_, quotZ};
 ghost use Rattle.amounts.specs.Quotients.{Rounded, Cut, quotient-rounded, quotient-cut};
 use crate::divisor::Divisor;
 
@@ -37,6 +37,7 @@ pub fn rounded(amount: i64, divisor: Divisor) -> i64
     ensures rounded { λ r. ⌜ Rounded amount (divisor .value) r ⌝ }
     ensures only { λ r. ⌜ ((s : ℤ) → Rounded amount (divisor .value) s → s ≡ r) ⌝ }
     ensures value { λ r. ⌜ r ≡ quotient-rounded amount (divisor .value) ⌝ }
+    ensures rising { λ r. ⌜ ((y : ℤ) → amount ≤ℤ y → r ≤ℤ quotient-rounded y (divisor .value)) ⌝ }
 {
     let quotient = cut(amount, divisor);
     let remainder = amount.unsigned_abs() % divisor.get();
