@@ -1,12 +1,21 @@
-// The cost reconciliation of two operators in two areas, in pence.
+// The cost reconciliation of two operators in two areas, what books answer, and the records of a batch.
+mod batch;
 mod bill;
 mod exact;
+mod infills;
 mod reconcile;
+mod refused;
 mod report;
+mod tariffs;
 
+use batch::report_batch;
 use bill::Billed;
+use infills::report_infills;
 use report::report;
+use std::env;
+use std::fs;
 use std::io;
+use tariffs::report_tariffs;
 
 // What the two operators were billed.
 const ENERGY: [Billed; 2] = [
@@ -42,8 +51,22 @@ const DELIVERY_IN_AREA_1: [Billed; 2] = [
     },
 ];
 
+// The batch in the file that the first argument names.
+fn report_file(rt: &LibcRuntime) -> io::Result<()> {
+    let mut args = env::args(rt)?;
+    let _ = args.next();
+    let Some(path) = args.next() else {
+        return println!(rt, "No batch: name a file of records.");
+    };
+    let batch = fs::read(rt, path.as_str())?;
+    report_batch(rt, &batch)
+}
+
 fn main(rt: LibcRuntime) -> io::Result<()> {
     report(&rt, "Energy, over the network", 27_500, &ENERGY)?;
     report(&rt, "Delivery in area 0", 5_950, &DELIVERY_IN_AREA_0)?;
-    report(&rt, "Delivery in area 1", 1_750, &DELIVERY_IN_AREA_1)
+    report(&rt, "Delivery in area 1", 1_750, &DELIVERY_IN_AREA_1)?;
+    report_tariffs(&rt)?;
+    report_infills(&rt)?;
+    report_file(&rt)
 }

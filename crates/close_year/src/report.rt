@@ -4,9 +4,8 @@ use crate::exact::ExactShare;
 use crate::exact::ExactShareDisplay;
 use crate::reconcile::Reconciled;
 use crate::reconcile::reconcile;
+use crate::refused::print_refusal;
 use amounts::Divisor;
-use amounts::Fault;
-use amounts::LayerDebug;
 use sharing::ShareFaultFault;
 use std::io;
 
@@ -64,15 +63,7 @@ pub(crate) fn report(
     let mut parts = [0i64; 2];
     let sums = match reconcile(cost, bills, &mut parts) {
         Ok(sums) => sums,
-        Err(fault) => {
-            let refusal = fault.refusal();
-            let number = refusal.number;
-            let layer = refusal.layer;
-            return println!(
-                rt,
-                "{title}: refused by fault {number} of the layer {layer:?}"
-            );
-        }
+        Err(fault) => return print_refusal(rt, title, &fault),
     };
     print_head(rt, title, cost, &sums)?;
     for (bill, part) in bills.iter().zip(parts.iter()) {

@@ -14,7 +14,7 @@ use Rattle.amounts.proofs.quotient.rounded.Needs as need
 
 -- what an answer owes, where it is the quotient rounded
 abbrev Owed : ℤ → ℕ → ℤ → Type 0
-Owed z d r = record {rounded : Rounded z d r; only : (s : ℤ) → Rounded z d s → s ≡ r; value : r ≡ quotient-rounded z d; rising : (y : ℤ) → z ≤ℤ y → r ≤ℤ quotient-rounded y d}
+Owed z d r = record { rounded : Rounded z d r; only : (s : ℤ) → Rounded z d s → s ≡ r; value : r ≡ quotient-rounded z d; rising : (y : ℤ) → z ≤ℤ y → r ≤ℤ quotient-rounded y d }
 
 owed : (z : ℤ) (d : ℕ) (r : ℤ) → 0 < d → r ≡ quotient-rounded z d → Owed z d r
 owed z d r some value =
