@@ -13,6 +13,7 @@ abbrev pub key-count : List ℕ → ℕ
 key-count [] = 1
 key-count (w ∷ ws) = 2 ^ w * key-count ws
 
+-- the key of the fields fs in these widths
 abbrev pub key-of : List ℕ → List ℕ → ℕ
 key-of [] fs = 0
 key-of (w ∷ ws) [] = 0
