@@ -6,12 +6,17 @@ use lib.IntN.{ℤ, pos, negsuc}
 use lib.ListN.{length, replicate}
 use Rattle.std.specs.Iters.{counting}
 use Rattle.std.specs.declared.result.Result.the-variants.{Ok}
+use Rattle.books.specs.InfillBooks.{rate-values}
 use Rattle.sharing.specs.Outcomes.{outcome, parts-after}
 
 -- z by the weights ws, at accounts from 1 on, gives the parts ps, and u is not shared
 pub record Shares (z : ℤ) (ws ps : List ℤ) (u : ℤ) : Type 0 where
   pub answer : outcome z ws (counting 1 (length ws)) (length ws) ≡ Ok u
   pub parts : parts-after z ws (counting 1 (length ws)) (replicate (length ws) (pos 99)) ≡ ps
+
+-- a rate and a discount at a speed give a slot's consumption and regeneration
+abbrev pub Rates : ℕ → ℕ → ℕ → ℕ → ℕ → Type 0
+Rates rate discount speed consumption regeneration = rate-values rate discount speed ≡ record { consumption = consumption; regeneration = regeneration }
 
 pub record WorkedFigures : Type 0 where
   -- 1,500 by 6,000 and 20,000 gives 346 and 1,154
@@ -22,3 +27,5 @@ pub record WorkedFigures : Type 0 where
   pub tie : Shares (pos 2) (pos 1 ∷ pos 1 ∷ pos 1 ∷ []) (pos 1 ∷ pos 1 ∷ pos 0 ∷ []) (pos 0)
   -- 7 by −3 and 0 is not shared
   pub no-weight : Shares (pos 7) (negsuc 2 ∷ pos 0 ∷ []) (pos 0 ∷ pos 0 ∷ []) (pos 7)
+  -- rate 20,000 at speed 250 and discount 1,500 gives 50,000 and 7,500
+  pub rate-at-speed : Rates 20000 1500 250 50000 7500

@@ -7,4 +7,5 @@ returns c = record {
   over-delivery = record { answer = refl; parts = refl };
   tie = record { answer = refl; parts = refl };
   no-weight = record { answer = refl; parts = refl };
+  rate-at-speed = refl;
 }
