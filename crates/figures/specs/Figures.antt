@@ -6,7 +6,9 @@ use lib.IntN.{ℤ, pos, negsuc}
 use lib.ListN.{length, replicate}
 use Rattle.std.specs.Iters.{counting}
 use Rattle.std.specs.declared.result.Result.the-variants.{Ok}
+use Rattle.billing.specs.Volumes.{metered-wh, modelled-wh, charge}
 use Rattle.books.specs.InfillBooks.{rate-values}
+use Rattle.records.specs.declared.record.ModelledQuantity.the-variants.{TrainMiles}
 use Rattle.sharing.specs.Outcomes.{outcome, parts-after}
 
 -- z by the weights ws, at accounts from 1 on, gives the parts ps, and u is not shared
@@ -29,3 +31,11 @@ pub record WorkedFigures : Type 0 where
   pub no-weight : Shares (pos 7) (negsuc 2 ∷ pos 0 ∷ []) (pos 0 ∷ pos 0 ∷ []) (pos 7)
   -- rate 20,000 at speed 250 and discount 1,500 gives 50,000 and 7,500
   pub rate-at-speed : Rates 20000 1500 250 50000 7500
+  -- net 1,000 at power factor 9,500 and loss 400 bills 988, at 9,734 and 1,208 for 9,617,192 and 1,193,504
+  pub metered-bill : metered-wh (pos 1000) 9500 400 ≡ pos 988
+  pub energy-charge : charge (pos 988) 9734 ≡ pos 9617192
+  pub delivery-charge : charge (pos 988) 1208 ≡ pos 1193504
+  -- net −1 at power factor 5,000 and loss 0 bills −1
+  pub half-below-zero : metered-wh (negsuc 0) 5000 0 ≡ negsuc 0
+  -- 150 hundredths of a train mile at rate 12,345 and discount 1,000 bill 16,666
+  pub modelled-bill : modelled-wh 12345 1000 (TrainMiles 150) ≡ pos 16666

@@ -8,4 +8,9 @@ returns c = record {
   tie = record { answer = refl; parts = refl };
   no-weight = record { answer = refl; parts = refl };
   rate-at-speed = refl;
+  metered-bill = refl;
+  energy-charge = refl;
+  delivery-charge = refl;
+  half-below-zero = refl;
+  modelled-bill = refl;
 }

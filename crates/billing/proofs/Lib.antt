@@ -1,0 +1,5 @@
+pub mod Products
+pub mod Sums
+pub mod Chains
+pub mod Relations
+pub mod Lawful
