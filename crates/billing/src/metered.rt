@@ -11,6 +11,7 @@ ghost use Rattle.billing.specs.Bills.{fill-values, metered-volume};
 ghost use Rattle.billing.specs.Filling.{kind-of, first-needing, net, WholeRecord};
 ghost use Rattle.billing.specs.Limits.{max-net};
 use crate::bill::Span;
+use crate::bill::Volume;
 use crate::categories::line_for_leg;
 use crate::fault::BookFault;
 use crate::filling::fill_of;
@@ -67,14 +68,14 @@ fn fill_values<I: InfillBook>(
     Ok(values)
 }
 
-// The billed Wh, or the fault of the table or the book that lacks something.
+// The net and billed Wh, or the fault of the table or the book that lacks something.
 pub(crate) fn metered_volume<I: InfillBook>(
     categories: &OrderedList<CategoryLine>,
     losses: &OrderedList<LossLine>,
     infill: &I,
     metered: Metered,
     span: Span,
-) -> Result<i64, BookFault>
+) -> Result<Volume, BookFault>
     requires ranged { ⌜ MeteredRanged (described-metered metered) ⌝ }
     requires whole { ⌜ WholeRecord (described-metered metered) ⌝ }
     ensures { λ r. ⌜ r ≡ metered-volume (contents (now (categories .entry))) (contents (now (losses .entry))) (values (now (infill .entry))) (described-metered (metered .entry)) (span .place) (span .next) ⌝ }
@@ -87,5 +88,7 @@ pub(crate) fn metered_volume<I: InfillBook>(
         return Err(BookFault::Loss { place, next });
     };
     let values = fill_values(infill, metered, span)?;
-    Ok(metered_wh(net_of(metered, values), line.power_factor(), loss.loss()))
+    let net = net_of(metered, values);
+    let wh = metered_wh(net, line.power_factor(), loss.loss());
+    Ok(Volume::Metered { net, wh })
 }

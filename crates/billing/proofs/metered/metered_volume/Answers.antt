@@ -9,6 +9,7 @@ use Rattle.std.proofs.shelf.Results.{err-from-errBy}
 use Rattle.std.proofs.shelf.Signed.{toZ-ofZ}
 use Rattle.lines.specs.Contents.{contents}
 use Rattle.records.specs.Records.{described-metered}
+use Rattle.billing.specs.declared.bill.Volume.the-variants as volume
 use Rattle.billing.specs.Filling.{net}
 use Rattle.billing.specs.Volumes.{metered-wh}
 use Rattle.billing.proofs.Chains.{no-line, no-loss, no-value, billed}
@@ -37,10 +38,11 @@ returns g c =
     let v = c .in-Continue-values .values in
     let line = c .in-Some .line in
     let loss = c .in-Some-find-loss .loss in
-    let value : toZ w64 (ofZ w64 (c .metered-wh .result)) ≡ metered-wh (net r v) (line .«power_factor») (loss .loss) =
-    toZ-ofZ w64 (c .metered-wh .result) (record { sfits = c .metered-wh .ok }) ∙ c .metered-wh .ensures
-    ∙ ap (λ z. metered-wh z (c .power-factor .result) (c .loss .result)) (toZ-ofZ w64 (c .net-of .result) (record { sfits = c .net-of .ok }) ∙ c .net-of .ensures .net)
+    let value : toZ w64 (ofZ w64 (c .metered-wh-wh .result)) ≡ metered-wh (net r v) (line .«power_factor») (loss .loss) =
+    toZ-ofZ w64 (c .metered-wh-wh .result) (record { sfits = c .metered-wh-wh .ok }) ∙ c .metered-wh-wh .ensures
+    ∙ ap (λ z. metered-wh z (c .power-factor .result) (c .loss .result)) (toZ-ofZ w64 (c .net-of-net .result) (record { sfits = c .net-of-net .ok }) ∙ c .net-of-net .ensures .net)
     ∙ ap₂ (λ a b. metered-wh (net r v) a b) (c .power-factor .ensures .value) (c .loss .ensures .value) in
-    ap Ok value
+    let both = toZ-ofZ w64 (c .net-of-net .result) (record { sfits = c .net-of-net .ok }) ∙ c .net-of-net .ensures .net in
+    ap Ok (ap₂ (λ a b. volume.Metered a b) both value)
     ∙ billed (contents (c .args .categories .now)) (contents (c .args .losses .now)) (g .I·InfillBook .values (c .args .infill .now)) r (c .args .span .place) (c .args .span .next)
     line (c .in-Some .ensures tt) (c .electricity .result) (c .electricity .ensures) loss (c .in-Some-find-loss .ensures tt .answer) v (c .in-Continue-values .ensures tt .answer)
