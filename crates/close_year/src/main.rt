@@ -1,17 +1,20 @@
-// The cost reconciliation of two operators in two areas, what books answer, and the records of a batch.
+// The cost reconciliation of two operators in two areas, what books answer, and the records of a batch with their bills.
 mod batch;
 mod bill;
+mod bills;
 mod exact;
 mod infills;
 mod reconcile;
 mod refused;
 mod report;
+mod sample;
 mod tariffs;
 
 use batch::report_batch;
 use bill::Billed;
 use infills::report_infills;
 use report::report;
+use sample::report_sample;
 use std::env;
 use std::fs;
 use std::io;
@@ -59,7 +62,8 @@ fn report_file(rt: &LibcRuntime) -> io::Result<()> {
         return println!(rt, "No batch: name a file of records.");
     };
     let batch = fs::read(rt, path.as_str())?;
-    report_batch(rt, &batch)
+    report_batch(rt, &batch)?;
+    report_sample(rt, &batch)
 }
 
 fn main(rt: LibcRuntime) -> io::Result<()> {
