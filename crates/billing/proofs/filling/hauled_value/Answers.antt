@@ -10,8 +10,7 @@ use Rattle.std.proofs.shelf.Signed.{toZ-ofZ, toZ-pos}
 use Rattle.amounts.specs.Quotients.{quotient-rounded}
 use Rattle.billing.specs.Limits.{max-slot-value}
 use Rattle.billing.specs.Filling.{hauled-value}
-use Rattle.billing.proofs.Products.{rounded-within}
-use Rattle.billing.proofs.Sums.{filled-slots, bits-counted, sumTo-front, sum-slots}
+use Rattle.books.proofs.Bounds.{rounded-le}
 use Rattle.billing.proofs.filling.hauled_value.Needs as need
 
 product-within : (v w : ℕ) → v ≤ 2000000 → w ≤ 10000 → v * w ≤ 20000000000
@@ -28,7 +27,7 @@ returns c =
     ∙ ap natAbs (toZ-ofZ w64 (c .rounded .result) (record { sfits = c .rounded .ok }) ∙ c .rounded .ensures .value
     ∙ ap₂ (λ x d. quotient-rounded x d) (toZ-pos w64 (v * w) (omega (arith, small))) (c .in-Some .ensures tt .value)) in
     let some : 0 < 1000 * l = omega (arith, c .pre .load .some-locomotives) in
-    record { value = value; bound = omega (arith, value, rounded-within (v * w) (1000 * l) max-slot-value some (omega (arith, small, c .pre .load .some-locomotives))) }
+    record { value = value; bound = omega (arith, value, rounded-le (v * w) (1000 * l) max-slot-value some (omega (arith, small, c .pre .load .some-locomotives))) }
 
 pub cast-product-3 : need.cast-product-3
 cast-product-3 c = record { sfits = omega (arith, product-within (c .args .value) (c .args .weight) (c .pre .value) (c .pre .load .weight)) }
