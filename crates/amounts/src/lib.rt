@@ -1,4 +1,6 @@
 // Units, ranges, rounding and the shape of a refusal: what every layer above speaks of.
+#![tactic(auto)]
+
 mod divisor;
 mod fault;
 mod quotient;

@@ -1,4 +1,6 @@
 // Examples of bills: tables, books and records written out by hand, and figures worked out by hand from the rules.
+#![tactic(auto)]
+
 #[cfg(test)]
 mod expected;
 #[cfg(test)]

@@ -1,4 +1,6 @@
 // Books: what prices an account pays, and what stands in for a missing reading.
+#![tactic(auto)]
+
 mod answers;
 mod blended;
 mod book;

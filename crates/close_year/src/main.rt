@@ -1,4 +1,6 @@
 // The cost reconciliation of two operators in two areas, what books answer, and the records of a batch with their bills.
+#![tactic(auto)]
+
 mod batch;
 mod bill;
 mod bills;

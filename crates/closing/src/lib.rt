@@ -1,4 +1,6 @@
 // Closing a year over one batch: opening, posting every record, and both reconciliations.
+#![tactic(auto)]
+
 ghost use Rattle.std.specs.Prelude.{◌≡◌};
 ghost use Rattle.billing.specs.Bills.{sources};
 ghost use Rattle.ledger.specs.Blocks.{block};

@@ -1,4 +1,6 @@
 // The block of a year: cells and account records, their limits, and what a bill adds to a cell.
+#![tactic(auto)]
+
 mod adding;
 mod block;
 mod checks;

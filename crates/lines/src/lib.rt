@@ -1,4 +1,6 @@
 // Ordered lists of the lines that tables of rates and prices are made of.
+#![tactic(auto)]
+
 mod category;
 mod fault;
 mod infill;

@@ -1,4 +1,6 @@
 // The adjustments of a year's two reconciliations, worked out from its block and a sheet. Nothing is written here.
+#![tactic(auto)]
+
 mod billed;
 mod columns;
 mod cost_lines;

@@ -1,4 +1,6 @@
 // Tests of reading: records written out by hand, damaged in one place or several.
+#![tactic(auto)]
+
 #[cfg(test)]
 mod accepted;
 #[cfg(test)]

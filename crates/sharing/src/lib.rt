@@ -1,4 +1,6 @@
 // Sharing an amount among lines by the largest remainders.
+#![tactic(auto)]
+
 ghost use Rattle.std.specs.Prelude.{◌≡◌, false, map, length, drop, pos, is_ok, IfOk, slice_index_or};
 ghost use Rattle.sharing.specs.Shares.{counting_weight};
 ghost use Rattle.sharing.specs.Outcomes.{outcome, parts_after};

@@ -1,4 +1,6 @@
 // Examples of rounding, sharing and refusals, run against figures worked out by hand.
+#![tactic(auto)]
+
 mod line;
 #[cfg(test)]
 mod quotients;

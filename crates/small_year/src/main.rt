@@ -1,4 +1,6 @@
 // A program that closes a small year, from opening to statements.
+#![tactic(auto)]
+
 mod blank;
 mod closed_year;
 mod log;

@@ -1,4 +1,6 @@
 // The yearly statement of an account, written into bytes and read back.
+#![tactic(auto)]
+
 mod fault;
 mod reading;
 mod statement;

@@ -1,4 +1,6 @@
 // A year from opening to statements.
+#![tactic(auto)]
+
 mod cost;
 mod entering;
 mod opening;
