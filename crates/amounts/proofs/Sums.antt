@@ -1,8 +1,8 @@
 -- Sums and counts over the indices below n. Assumes nothing.
-use Rattle.std.proofs.Common.{◌≡◌, ℕ, zero, suc, ◌+◌, ◌*◌, ◌<◌, ◌≤◌, Bool, ℤ, pos, ◌+ℤ◌, sym, refl, ap, ◌∙◌, ap₂, inl, inr, add-one, arith}
+use Rattle.std.proofs.Common.{◌≡◌, ℕ, zero, suc, ◌+◌, ◌*◌, ◌<◌, ◌≤◌, Bool, ℤ, pos, ◌+ℤ◌, refl, ap, ◌∙◌, ap₂, inl, inr, add-one, arith}
 use borrow.Author.Differences.{ints}
 use Rattle.std.proofs.lemmas.Bool.{cases_eq}
-use Rattle.amounts.specs.Sums.{sum_to, int_sum_to, one, count_to}
+use Rattle.amounts.specs.Sums.{sum_to, int_sum_to, count_to}
 
 pub sum_to_more : (f : ℕ → ℕ) (n : ℕ) → sum_to f (n + 1) ≡ sum_to f n + f n
 sum_to_more f n = ap (sum_to f) (add-one n)

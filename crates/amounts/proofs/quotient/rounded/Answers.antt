@@ -1,4 +1,4 @@
-use Rattle.std.proofs.Common.{◌≡◌, ℕ, ◌+◌, ◌-◌, ◌*◌, ◌/◌, ◌%◌, ◌<◌, ◌≤◌, ℤ, ◌+ℤ◌, nat_abs, ◌≤ℤ◌, sym, ap, ◌∙◌, subst, ap₂, arith, w64, SFits, to_z, of_z}
+use Rattle.std.proofs.Common.{◌≡◌, ℕ, ◌+◌, ◌*◌, ◌/◌, ◌%◌, ◌<◌, ◌≤◌, ℤ, ◌+ℤ◌, nat_abs, ◌≤ℤ◌, sym, ap, ◌∙◌, subst, ap₂, arith, w64, SFits, to_z, of_z}
 use Rattle.std.specs.Int.{int_signum}
 use Rattle.std.proofs.lemmas.Int.{to_z-of_z}
 use Rattle.std.proofs.lemmas.Bool.{leb-true, leb-false}
@@ -23,39 +23,39 @@ sum_is z q s d fz fq fs eq es l =
     (to_z-of_z w64 s fs ∙ es ∙ ap int_signum (to_z-of_z w64 z fz))
     ∙ away z (nat_abs z / d) l
 
-pub returns-else-reaches-half : goal.returns-else-reaches-half
-returns-else-reaches-half c =
+pub returns-else-reaches_half : goal.returns-else-reaches_half
+returns-else-reaches_half c =
     let z = c.args.amount in
     let d = c.args.divisor.value in
     let zed = to_z-of_z w64 z c.ranges.amount in
-    let rest : c.unsigned-abs.result % c.get.result ≡ nat_abs z % d = ap₂ (λ x y. x % y) (c.unsigned-abs.ensures.value ∙ ap nat_abs zed) c.get.ensures in
-    let low = leb-false _ _ (sym c.reaches-half.ensures ∙ c.if-reaches-half.false) in
+    let rest : c.unsigned_abs.result % c.get.result ≡ nat_abs z % d = ap₂ (λ x y. x % y) (c.unsigned_abs.ensures.value ∙ ap nat_abs zed) c.get.ensures in
+    let low = leb-false _ _ (sym c.reaches_half.ensures ∙ c.if-reaches_half.false) in
     owed z d _ c.args.divisor.positive
-    (to_z-of_z w64 c.cut-quotient.result (record { sfits = c.cut-quotient.type-inv }) ∙ c.cut-quotient.ensures.value ∙ ap (λ x. quotient_cut x d) zed
+    (to_z-of_z w64 c.cut-quotient.result (record { sfits = c.cut-quotient.type_inv }) ∙ c.cut-quotient.ensures.value ∙ ap (λ x. quotient_cut x d) zed
     ∙ sym (rounds_down z d (omega (arith, rest, low, c.get-2.ensures))))
 
 -- where the sum is taken, twice the remainder reaches the divisor
 reached : (c : goal.After-signum) → c.args.divisor.value ≤ 2 * (nat_abs c.args.amount % c.args.divisor.value)
 reached c =
-    let rest : c.unsigned-abs.result % c.get.result ≡ nat_abs c.args.amount % c.args.divisor.value =
-    ap₂ (λ x y. x % y) (c.unsigned-abs.ensures.value ∙ ap nat_abs (to_z-of_z w64 c.args.amount c.ranges.amount)) c.get.ensures in
-    let high = leb-true _ _ (sym c.reaches-half.ensures ∙ c.if-reaches-half.true) in
+    let rest : c.unsigned_abs.result % c.get.result ≡ nat_abs c.args.amount % c.args.divisor.value =
+    ap₂ (λ x y. x % y) (c.unsigned_abs.ensures.value ∙ ap nat_abs (to_z-of_z w64 c.args.amount c.ranges.amount)) c.get.ensures in
+    let high = leb-true _ _ (sym c.reaches_half.ensures ∙ c.if-reaches_half.true) in
     omega (arith, rest, high, c.get-2.ensures)
 
 summed : (c : goal.After-signum) → to_z w64 (of_z w64 c.cut-quotient.result) +ℤ to_z w64 (of_z w64 c.signum.result) ≡ with_sign c.args.amount (nat_abs c.args.amount / c.args.divisor.value + 1)
 summed c =
     sum_is c.args.amount c.cut-quotient.result c.signum.result c.args.divisor.value c.ranges.amount
-    (record { sfits = c.cut-quotient.type-inv }) (record { sfits = c.signum.type-inv }) c.cut-quotient.ensures.value c.signum.ensures.value
+    (record { sfits = c.cut-quotient.type_inv }) (record { sfits = c.signum.type_inv }) c.cut-quotient.ensures.value c.signum.ensures.value
     (not_zero c.args.amount c.args.divisor.value c.args.divisor.positive (reached c))
 
 fits : (c : goal.After-signum) → SFits w64 (with_sign c.args.amount (nat_abs c.args.amount / c.args.divisor.value + 1))
 fits c = up_fits c.args.amount c.args.divisor.value c.args.divisor.positive (reached c) c.ranges.amount
 
-pub overflow-add-result : goal.overflow-add-result
-overflow-add-result c = subst (SFits w64) (sym (summed c)) (fits c)
+pub overflow_add-result : goal.overflow_add-result
+overflow_add-result c = subst (SFits w64) (sym (summed c)) (fits c)
 
-pub returns-then-reaches-half : goal.returns-then-reaches-half
-returns-then-reaches-half c =
+pub returns-then-reaches_half : goal.returns-then-reaches_half
+returns-then-reaches_half c =
     let z = c.args.amount in
     let d = c.args.divisor.value in
     owed z d _ c.args.divisor.positive

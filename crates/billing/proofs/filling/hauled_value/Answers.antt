@@ -18,7 +18,7 @@ returns c =
     let small = product_within v w c.requires.value c.requires.load.weight in
     let value : c.unsigned-abs.result ≡ hauled_value v w l =
     c.unsigned-abs.ensures.value
-    ∙ ap nat_abs (to_z-of_z w64 c.rounded.result (record { sfits = c.rounded.type-inv }) ∙ c.rounded.ensures.value
+    ∙ ap nat_abs (to_z-of_z w64 c.rounded.result (record { sfits = c.rounded.type_inv }) ∙ c.rounded.ensures.value
     ∙ ap₂ (λ x d. quotient_rounded x d) (to_z_pos w64 (v * w) (omega (arith, small))) c.in-Some.ensures.value) in
     let some : 0 < 1000 * l = omega (arith, c.requires.load.some_locomotives) in
     record { value = value; bound = omega (arith, value, rounded_le (v * w) (1000 * l) max_slot_value some (omega (arith, small, c.requires.load.some_locomotives))) }

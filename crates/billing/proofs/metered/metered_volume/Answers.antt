@@ -33,10 +33,10 @@ returns g c =
     let line = c.in-Some.line in
     let loss = c.in-Some-find-loss.loss in
     let value : to_z w64 (of_z w64 c.metered-wh-wh.result) ≡ metered_wh (net r v) line.power_factor loss.loss =
-    to_z-of_z w64 c.metered-wh-wh.result (record { sfits = c.metered-wh-wh.type-inv }) ∙ c.metered-wh-wh.ensures
-    ∙ ap (λ z. metered_wh z c.power-factor.result c.loss.result) (to_z-of_z w64 c.net-of-net.result (record { sfits = c.net-of-net.type-inv }) ∙ c.net-of-net.ensures.net)
+    to_z-of_z w64 c.metered-wh-wh.result (record { sfits = c.metered-wh-wh.type_inv }) ∙ c.metered-wh-wh.ensures
+    ∙ ap (λ z. metered_wh z c.power-factor.result c.loss.result) (to_z-of_z w64 c.net-of-net.result (record { sfits = c.net-of-net.type_inv }) ∙ c.net-of-net.ensures.net)
     ∙ ap₂ (λ a b. metered_wh (net r v) a b) c.power-factor.ensures.value c.loss.ensures.value in
-    let both = to_z-of_z w64 c.net-of-net.result (record { sfits = c.net-of-net.type-inv }) ∙ c.net-of-net.ensures.net in
+    let both = to_z-of_z w64 c.net-of-net.result (record { sfits = c.net-of-net.type_inv }) ∙ c.net-of-net.ensures.net in
     ap Ok (ap₂ (λ a b. volume.Metered a b) both value)
     ∙ billed (contents c.args.categories.now) (contents c.args.losses.now) (g.I.InfillBook.values c.args.infill.now) r c.args.span.place c.args.span.next
     line c.in-Some.ensures c.electricity.result c.electricity.ensures loss c.in-Some-find-loss.ensures.answer v c.in-ok-values.ensures.answer

@@ -13,4 +13,4 @@ pub returns : goal.returns
 returns c =
     let z = c.above.result in
     c.share-over-all.ensures
-    ∙ delivery_shared c.args.cells.now c.args.costs.now c.args.area (to_z w64 (of_z w64 z)) c.deliveries-in-billed.result c.deliveries-in-billed.ensures.answer (to_z-of_z w64 z (record { sfits = c.above.type-inv }) ∙ c.above.ensures)
+    ∙ delivery_shared c.args.cells.now c.args.costs.now c.args.area (to_z w64 (of_z w64 z)) c.deliveries-in-billed.result c.deliveries-in-billed.ensures.answer (to_z-of_z w64 z (record { sfits = c.above.type_inv }) ∙ c.above.ensures)

@@ -18,7 +18,7 @@ shared : (c : After-share-over-all) → c.share-over-all.result ≡ cond (energy
 shared c =
     let z = c.above.result in
     c.share-over-all.ensures
-    ∙ energy_shared c.args.cells.now c.args.cost (to_z w64 (of_z w64 z)) c.energies-billed.result c.energies-billed.ensures.answer (to_z-of_z w64 z (record { sfits = c.above.type-inv }) ∙ c.above.ensures)
+    ∙ energy_shared c.args.cells.now c.args.cost (to_z w64 (of_z w64 z)) c.energies-billed.result c.energies-billed.ensures.answer (to_z-of_z w64 z (record { sfits = c.above.type_inv }) ∙ c.above.ensures)
 
 pub returns-in-Some : goal.returns-in-Some
 unfolding energy_limit_fault

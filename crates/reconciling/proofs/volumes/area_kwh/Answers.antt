@@ -21,8 +21,8 @@ returns c =
     let d = discrepancy (sums_in cells) row c.args.area in
     let m = managers_kwh d row in
     let ws = operator_weights (sums_in cells) c.args.area in
-    let is_d = to_z-of_z w64 c.discrepancy-of-discrepancy.result (record { sfits = c.discrepancy-of-discrepancy.type-inv }) ∙ c.discrepancy-of-discrepancy.ensures in
-    let is_m = to_z-of_z w64 c.managers-kwh-managers.result (record { sfits = c.managers-kwh-managers.type-inv }) ∙ c.managers-kwh-managers.ensures.answer ∙ ap (λ x. managers_kwh x row) is_d in
+    let is_d = to_z-of_z w64 c.discrepancy-of-discrepancy.result (record { sfits = c.discrepancy-of-discrepancy.type_inv }) ∙ c.discrepancy-of-discrepancy.ensures in
+    let is_m = to_z-of_z w64 c.managers-kwh-managers.result (record { sfits = c.managers-kwh-managers.type_inv }) ∙ c.managers-kwh-managers.ensures.answer ∙ ap (λ x. managers_kwh x row) is_d in
     let good = ap (λ x. within x max_kwh) (sym is_d) ∙ sym c.if-not-within.ensures in
     let small = leb-true (nat_abs d) max_kwh good in
     let left = rest_le d row c.requires.row in

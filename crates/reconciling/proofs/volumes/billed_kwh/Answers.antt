@@ -17,6 +17,6 @@ returns c =
     let modelled = c.kwh-of-2.ensures.answer ∙ ap kwh_of (to_z-of_z w64 s.modelled g) in
     let x = metered_kwh_le s c.requires in
     let y = modelled_kwh_le s c.requires in
-    let value = ap₂ (λ a b. to_z w64 (of_z w64 (a +ℤ to_z w64 (of_z w64 b)))) (to_z-of_z w64 c.kwh-of.result (record { sfits = c.kwh-of.type-inv }) ∙ metered) modelled
+    let value = ap₂ (λ a b. to_z w64 (of_z w64 (a +ℤ to_z w64 (of_z w64 b)))) (to_z-of_z w64 c.kwh-of.result (record { sfits = c.kwh-of.type_inv }) ∙ metered) modelled
     ∙ add_is (kwh_of s.metered) (kwh_of s.modelled) max_kwh max_kwh x y (lit< tt) in
     record { answer = value; bound = omega (arith, ap nat_abs value, add_le (kwh_of s.metered) (kwh_of s.modelled) max_kwh max_kwh x y (lit< tt)) }

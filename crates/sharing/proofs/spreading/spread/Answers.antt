@@ -42,5 +42,5 @@ loop-i-preserved c =
     let fit = size_from z c.unsigned-abs-size.result ws c.divide-leftover.new.remainders (length ws - 0) i c.get.result c.divide-leftover.result c.extra-unit-extra.result
     c.unsigned-abs-size.ensures.value (c.get.ensures ∙ total) (omega arith) c.loop-i-test.true c.divide-leftover.ensures.noted c.divide-leftover.ensures.units c.extra-unit-extra.ensures in
     let value : c.with-sign.result ≡ part z ws i = c.with-sign.ensures ∙ ap (with_sign z) fit in
-    let wrote : to_z w64 (of_z w64 c.with-sign.result) ≡ part z ws i = to_z-of_z w64 c.with-sign.result (record { sfits = c.with-sign.type-inv }) ∙ value in
+    let wrote : to_z w64 (of_z w64 c.with-sign.result) ≡ part z ws i = to_z-of_z w64 c.with-sign.result (record { sfits = c.with-sign.type_inv }) ∙ value in
     ap₂ (λ ps v. set ps i v) c.loop-i.invariant wrote ∙ written_more (part z ws) i c.args.parts.now (omega arith)
