@@ -1,8 +1,8 @@
-use Rattle.std.proofs.Common.{◌≡◌, ℕ, ◌-◌, ◌<◌, ◌≤◌, true, List, map, length, get_or, take, drop, ℤ, pos, nat_abs, Ok, sym, refl, ap, ◌∙◌, subst, ap₂, arith, w64, to_z, of_z, rules}
+use Rattle.std.proofs.Common.{◌≡◌, ◌-◌, ◌≤◌, map, length, get_or, take, drop, pos, Ok, sym, refl, ap, ◌∙◌, subst, ap₂, arith, w64, to_z, of_z, rules}
 use Rattle.std.proofs.lemmas.List.{length-map}
 use Rattle.std.proofs.lemmas.Int.{to_z-of_z}
 use Rattle.std.proofs.lemmas.Bool.{true≢false}
-use Rattle.sharing.specs.Limits.{figures_in_limit, rising, max_lines, max_weight}
+use Rattle.sharing.specs.Limits.{figures_in_limit, max_weight}
 use Rattle.sharing.specs.Shares.{counting_weight, part, unshared, written}
 use Rattle.sharing.specs.Laws.{FairShare}
 use Rattle.sharing.proofs.Fairness.{fair, fair_at}

@@ -1,4 +1,4 @@
-use Rattle.std.proofs.Common.{◌≡◌, ◌+◌, ◌<◌, ◌∙◌, arith, rules}
+use Rattle.std.proofs.Common.{◌+◌, ◌<◌, ◌∙◌, arith, rules}
 use Rattle.sharing.specs.Shares.{total_weight}
 use Rattle.sharing.proofs.Fair.{quotients_upto}
 use Rattle.sharing.proofs.Steps.{shared_more, remainders_more}

@@ -1,9 +1,9 @@
-use Rattle.std.proofs.Common.{◌≡◌, ℕ, ◌+◌, ◌-◌, ◌*◌, ◌/◌, ◌<◌, ◌≤◌, eqb, length, get_or, set, ℤ, pos, nat_abs, sym, ap, ◌∙◌, ap₂, arith, w64, to_z, of_z}
+use Rattle.std.proofs.Common.{◌≡◌, ◌-◌, ◌<◌, eqb, length, set, pos, nat_abs, sym, ap, ◌∙◌, ap₂, arith, w64, to_z, of_z}
 use Rattle.std.proofs.lemmas.Int.{to_z-of_z}
 use Rattle.std.proofs.lemmas.Bool.{cond-true, eq-eqb}
 use Rattle.std.proofs.lemmas.Bool.Decides.{nat_tests}
 use Rattle.amounts.specs.Quotients.{with_sign}
-use Rattle.sharing.specs.Shares.{total_weight, part, size, unshared}
+use Rattle.sharing.specs.Shares.{total_weight, part}
 use Rattle.sharing.proofs.Steps.{size_from, size_within, no_total_no_part}
 use Rattle.sharing.proofs.Written.{written_more, written_ext}
 use Rattle.sharing.proofs.spreading.spread.Goals as goal
