@@ -1,5 +1,5 @@
 -- Who gets a unit that is left over, by remainders and accounts.
-use Rattle.std.proofs.Common.{◌≡◌, ℕ, zero, suc, ◌+◌, ◌<◌, ◌≤◌, Bool, true, false, cond, ◌&&◌, eqb, ltb, leb, ◌⊎◌, List, [], ◌∷◌, length, get_or, ℤ, nat_abs, sym, refl, ap, ◌∙◌, inl, inr, arith}
+use Rattle.std.proofs.Common.{◌≡◌, ℕ, zero, suc, ◌+◌, ◌<◌, ◌≤◌, Bool, true, false, ◌&&◌, eqb, leb, ◌⊎◌, List, [], ◌∷◌, length, get_or, ℤ, nat_abs, sym, ap, ◌∙◌, inl, inr, arith}
 use Rattle.std.proofs.lemmas.Bool.{and_parts, leb-true, ltb-true, ltb-false, cases_order, cases_Bool}
 use Rattle.std.proofs.lemmas.Bool.Decides.{nat_tests}
 use Rattle.amounts.specs.Quotients.{with_sign}
@@ -8,7 +8,7 @@ use Rattle.amounts.specs.Sums.{one}
 use Rattle.amounts.proofs.Quotients.{nat_abs_with_sign}
 use Rattle.amounts.proofs.Sums.{sum_to_ext}
 use Rattle.sharing.specs.Limits.{rising}
-use Rattle.sharing.specs.Shares.{weight_at, total_weight, quotient, remainder, leftover, gets_extra, size, part}
+use Rattle.sharing.specs.Shares.{total_weight, quotient, remainder, leftover, gets_extra, size, part}
 use Rattle.sharing.specs.Laws.{Extra, extras}
 use Rattle.sharing.proofs.Ranks.{place_rank, place_rank_falls, place_rank_earlier}
 use Rattle.sharing.proofs.Fair.{gets_extra_is, extras_come_to}

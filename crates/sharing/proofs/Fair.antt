@@ -1,9 +1,9 @@
 -- The sizes of the parts: what they come to, and how near they lie to the exact shares.
-use Rattle.std.proofs.Common.{◌≡◌, ℕ, zero, suc, ◌+◌, ◌-◌, ◌*◌, ◌/◌, ◌%◌, ◌<◌, ◌≤◌, Bool, true, false, cond, ◌&&◌, ◌||◌, eqb, ltb, leb, ◌⊎◌, List, length, sym, refl, ap, ◌∙◌, subst, inl, inr, mod-lt, mul_comm, mul-zero, arith}
+use Rattle.std.proofs.Common.{◌≡◌, ℕ, zero, suc, ◌+◌, ◌-◌, ◌*◌, ◌%◌, ◌<◌, ◌≤◌, ◌&&◌, ltb, leb, ◌⊎◌, List, length, ap, ◌∙◌, inl, inr, mod-lt, mul-zero, arith}
 use native.Mathlib.Nat.{div-add-mod, le_of_mul-le-mul_left, zero-mod}
-use Rattle.std.proofs.lemmas.Bool.{cases_eq, cases_lt, cases_Bool}
+use Rattle.std.proofs.lemmas.Bool.{cases_eq, cases_lt}
 use Rattle.std.proofs.lemmas.Bool.Decides.{nat_tests}
-use Rattle.amounts.specs.Sums.{sum_to, count_to, one}
+use Rattle.amounts.specs.Sums.{sum_to, one}
 use Rattle.sharing.specs.Shares.{weight_at, total_weight, quotient, remainder, leftover, rank, gets_extra, size}
 use Rattle.amounts.proofs.Sums.{sum_to_ext, sum_to_le, sum_to_add, sum_to_mul, sum_to_mono, term_le_sum_to, count_to_le}
 use Rattle.sharing.proofs.Ranks.{upper, place_rank, place_rank_counts, place_rank_outside, rank_is, rank_outside}

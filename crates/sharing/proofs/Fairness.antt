@@ -1,14 +1,13 @@
 -- The parts of a sharing are fair, and so is what the places hold.
-use Rattle.std.proofs.Common.{◌≡◌, ℕ, ◌+◌, ◌*◌, ◌<◌, ◌≤◌, true, cond, eqb, ◌⊎◌, List, length, get_or, ℤ, pos, ◌+ℤ◌, ◌-ℤ◌, ◌*ℤ◌, nat_abs, sym, refl, ap, ◌∙◌, subst, ap₂, inl, inr, arith}
+use Rattle.std.proofs.Common.{◌≡◌, ℕ, ◌+◌, ◌<◌, ◌≤◌, true, cond, eqb, List, length, ℤ, pos, ◌+ℤ◌, ◌-ℤ◌, ◌*ℤ◌, nat_abs, sym, ap, ◌∙◌, ap₂, inl, inr, arith}
 use lib.IntN.{+ℤ_idl, +ℤ_idr}
 use borrow.Author.Differences.{ints}
 use Rattle.std.proofs.lemmas.Bool.{cases_eq, cond-true, cond-false, eq-eqb, ne_eqb}
-use Rattle.amounts.specs.Quotients.{with_sign}
-use Rattle.amounts.specs.Sums.{sum_to, int_sum_to}
+use Rattle.amounts.specs.Sums.{int_sum_to}
 use Rattle.amounts.proofs.Quotients.{nat_abs_with_sign}
 use Rattle.amounts.proofs.Sums.{sum_to_ext, sum_to_le, int_sum_to_ext, int_sum_to_zero}
 use Rattle.sharing.specs.Limits.{rising}
-use Rattle.sharing.specs.Shares.{weight_at, total_weight, quotient, size, part, unshared, written}
+use Rattle.sharing.specs.Shares.{weight_at, total_weight, quotient, size, part, unshared}
 use Rattle.sharing.specs.Laws.{off, off_in_all, Split, extras, FairShare}
 use Rattle.sharing.proofs.Signs.{parts_come_to, parts_near, parts_nearest}
 use Rattle.sharing.proofs.Steps.{size_within, no_weight_no_part, no_total_no_part, no_total_no_weight}

@@ -1,5 +1,5 @@
 -- How a sharing ends, by its checks.
-use Rattle.std.proofs.Common.{◌≡◌, ℕ, ◌<◌, ◌≤◌, true, false, ◌&&◌, List, map, length, ℤ, Ok, Err, Result, sym, ◌∙◌}
+use Rattle.std.proofs.Common.{◌≡◌, ℕ, ◌<◌, ◌≤◌, true, false, List, map, length, ℤ, Ok, Err, Result, sym, ◌∙◌}
 use Rattle.std.proofs.lemmas.Bool.{cond-true, cond-false, and_left, and_right, and_from, le-leb, lt-leb}
 use Rattle.sharing.specs.declared.fault.ShareFault.{ShareFault}
 use Rattle.sharing.specs.declared.fault.ShareFault.TheVariants.{BeyondLimits, Accounts, TooFewPlaces}

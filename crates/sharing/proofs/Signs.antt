@@ -1,7 +1,7 @@
 -- The parts with the amount's sign: what they come to, and how near they lie to the exact proportions.
-use Rattle.std.proofs.Common.{◌≡◌, ℕ, zero, suc, ◌+◌, ◌-◌, ◌*◌, ◌<◌, ◌≤◌, List, length, ℤ, pos, negsuc, ◌+ℤ◌, ◌-ℤ◌, ◌*ℤ◌, neg_ℤ, nat_abs, sym, refl, ap, ◌∙◌, subst, arith}
+use Rattle.std.proofs.Common.{◌≡◌, ℕ, zero, suc, ◌+◌, ◌*◌, ◌<◌, ◌≤◌, List, length, ℤ, pos, negsuc, ◌+ℤ◌, ◌-ℤ◌, ◌*ℤ◌, neg_ℤ, nat_abs, sym, refl, ap, ◌∙◌, arith}
 use lib.IntN.{neg_ℤ-+ℤ}
-use borrow.Author.Differences.{up, down, ints, same_in, sum_is_lem}
+use borrow.Author.Differences.{up, down, ints, sum_is_lem}
 use Rattle.amounts.specs.Sums.{sum_to, int_sum_to}
 use Rattle.sharing.specs.Shares.{weight_at, total_weight, size, part}
 use Rattle.sharing.specs.Laws.{off, off_in_all, Split}

@@ -1,5 +1,5 @@
 -- The steps of the loops that divide an amount, and lines that get nothing.
-use Rattle.std.proofs.Common.{◌≡◌, ℕ, suc, ◌+◌, ◌*◌, ◌/◌, ◌%◌, ◌<◌, ◌≤◌, ◌&&◌, ltb, ◌≢◌, List, length, get_or, take, set, ℤ, pos, negsuc, neg_ℤ, nat_abs, sym, refl, ap, ◌∙◌, ap₂, inl, inr, mul-zero, arith, get_or-set_other, get_or-set_same, below_more}
+use Rattle.std.proofs.Common.{◌≡◌, ℕ, suc, ◌+◌, ◌*◌, ◌/◌, ◌%◌, ◌<◌, ◌≤◌, ◌&&◌, ltb, ◌≢◌, List, length, get_or, take, set, ℤ, pos, negsuc, neg_ℤ, nat_abs, ap, ◌∙◌, ap₂, inl, inr, mul-zero, arith, get_or-set_other, get_or-set_same, below_more}
 use native.Mathlib.Nat.{zero-div}
 use Rattle.std.proofs.lemmas.Bool.{cases_lt}
 use Rattle.std.proofs.lemmas.List.{get_or_past, get_or-take}

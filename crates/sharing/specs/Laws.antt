@@ -1,5 +1,5 @@
 -- What makes a sharing fair, in the words of whoever shares. ws are the weights that count and cs the accounts of the lines.
-use Rattle.std.specs.Prelude.{◌≡◌, ℕ, ◌+◌, ◌<◌, ◌≤◌, Bool, ◌⊎◌, List, length, ℤ, pos, ◌+ℤ◌, ◌-ℤ◌, ◌*ℤ◌, nat_eq, slice_index, unsigned_abs}
+use Rattle.std.specs.Prelude.{◌≡◌, ℕ, ◌+◌, ◌<◌, ◌≤◌, ◌⊎◌, List, length, ℤ, pos, ◌+ℤ◌, ◌-ℤ◌, ◌*ℤ◌, nat_eq, slice_index, unsigned_abs}
 use Rattle.amounts.specs.Quotients.{with_sign}
 use Rattle.amounts.specs.Sums.{sum_to, int_sum_to, count_to}
 use Rattle.sharing.specs.Shares.{weight_at, total_weight, quotient, remainder, leftover}

@@ -16,7 +16,7 @@ const MAX_WEIGHT: i64 = 3_000_000_000;
 pub(crate) const MAX_LINES: usize = 64;
 
 fn weights_in_limit<L: Weighted>(lines: &[L]) -> bool
-    ensures { result ≡ weights_in_limit (map weight lines.now) }
+    ensures { result ≡ weights_in_limit (map L.weight lines.now) }
 {
     for line in lines {
         if line.weight() > MAX_WEIGHT {
@@ -28,7 +28,7 @@ fn weights_in_limit<L: Weighted>(lines: &[L]) -> bool
 
 // Whether the amount, the number of the lines and their weights are within their limits.
 pub(crate) fn figures_in_limit<L: Weighted>(amount: i64, lines: &[L]) -> bool
-    ensures { result ≡ figures_in_limit amount (map weight lines.now) }
+    ensures { result ≡ figures_in_limit amount (map L.weight lines.now) }
 {
     if !within(amount, MAX_AMOUNT) || lines.len() > MAX_LINES {
         return false;
@@ -45,7 +45,7 @@ fn may_follow(low: u8, account: u8) -> bool
 
 // Whether the accounts exist and rise.
 pub(crate) fn accounts_rise<L: AccountLine>(lines: &[L]) -> bool
-    ensures { result ≡ rising 0 (map account lines.now) }
+    ensures { result ≡ rising 0 (map L.account lines.now) }
 {
     let mut low = 0;
     for line in lines {

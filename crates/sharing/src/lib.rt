@@ -22,9 +22,9 @@ use weights::copy_weights;
 // Shares `amount` among the lines by their weights, into the first places of `parts`, and answers what is not shared:
 // nothing, unless no line takes part.
 pub fn share<L: AccountLine>(amount: i64, lines: &[L], parts: &mut [i64]) -> Result<i64, ShareFault>
-    ensures answer { result ≡ outcome amount (map L.Weighted.weight lines.now) (map account lines.now) (length parts.old) }
-    ensures after { parts.new ≡ parts_after amount (map L.Weighted.weight lines.now) (map account lines.now) parts.old }
-    ensures fair { IfOk result (λ u. FairShare amount (map counting_weight (map L.Weighted.weight lines.now)) (map account lines.now) u (λ i. slice_index_or parts.new i (pos 0))) }
+    ensures answer { result ≡ outcome amount (map L.Weighted.weight lines.now) (map L.account lines.now) (length parts.old) }
+    ensures after { parts.new ≡ parts_after amount (map L.Weighted.weight lines.now) (map L.account lines.now) parts.old }
+    ensures fair { IfOk result (λ u. FairShare amount (map counting_weight (map L.Weighted.weight lines.now)) (map L.account lines.now) u (λ i. slice_index_or parts.new i (pos 0))) }
     ensures refused { is_ok result ≡ false → parts.new ≡ parts.old }
     ensures beyond { drop (length lines.now) parts.new ≡ drop (length lines.now) parts.old }
 {

@@ -15,7 +15,7 @@ fn counting_weight(weight: i64) -> u64
 // Writes what counts of each line's weight.
 pub(crate) fn copy_weights<L: Weighted>(lines: &[L], weights: &mut [u64])
     requires { length lines.now ≤ length weights.old }
-    ensures { take (length lines.now) weights.new ≡ map counting_weight (map weight lines.now) }
+    ensures { take (length lines.now) weights.new ≡ map counting_weight (map L.weight lines.now) }
 {
     for (i, line) in lines.iter().enumerate() {
         weights[i] = counting_weight(line.weight());

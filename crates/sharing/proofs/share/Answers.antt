@@ -1,8 +1,8 @@
-use Rattle.std.proofs.Common.{◌≡◌, ℕ, ◌-◌, ◌<◌, ◌≤◌, true, List, map, length, get_or, take, drop, ℤ, pos, nat_abs, Ok, sym, refl, ap, ◌∙◌, subst, ap₂, arith, w64, to_z, of_z, rules}
+use Rattle.std.proofs.Common.{◌≡◌, ◌-◌, ◌≤◌, map, length, get_or, take, drop, pos, Ok, sym, refl, ap, ◌∙◌, subst, ap₂, arith, w64, to_z, of_z, rules}
 use Rattle.std.proofs.lemmas.List.{length-map}
 use Rattle.std.proofs.lemmas.Int.{to_z-of_z}
 use Rattle.std.proofs.lemmas.Bool.{true≢false}
-use Rattle.sharing.specs.Limits.{figures_in_limit, rising, max_lines, max_weight}
+use Rattle.sharing.specs.Limits.{figures_in_limit, max_weight}
 use Rattle.sharing.specs.Shares.{counting_weight, part, unshared, written}
 use Rattle.sharing.specs.Laws.{FairShare}
 use Rattle.sharing.proofs.Fairness.{fair, fair_at}
@@ -11,21 +11,21 @@ use Rattle.sharing.proofs.Outcomes.{ends_at_limits, ends_at_accounts, ends_at_pl
 use Rattle.sharing.proofs.Written.{written_at, written_beyond}
 use Rattle.sharing.proofs.share.Goals as goal
 
-pub returns-then-not-figures-in-limit : goal.returns-then-not-figures-in-limit
-returns-then-not-figures-in-limit g c =
+pub returns-then-not-figures_in_limit : goal.returns-then-not-figures_in_limit
+returns-then-not-figures_in_limit g c =
     let ls = c.args.lines.now in
     let f = g.L.Weighted.weight in
     let p = ends_at_limits c.args.amount (map f ls) (map g.L.AccountLine.account ls) c.args.parts.now
-    (ap (λ y. figures_in_limit y (map f ls)) (sym (to_z-of_z w64 c.args.amount c.ranges.amount)) ∙ sym c.figures-in-limit.ensures ∙ c.if-not-figures-in-limit.true) in
+    (ap (λ y. figures_in_limit y (map f ls)) (sym (to_z-of_z w64 c.args.amount c.ranges.amount)) ∙ sym c.figures_in_limit.ensures ∙ c.if-not-figures_in_limit.true) in
     record { answer = p.0; after = p.1; fair = tt; refused = λ _. refl; beyond = refl }
 
-pub returns-then-not-accounts-rise : goal.returns-then-not-accounts-rise
-returns-then-not-accounts-rise g c =
+pub returns-then-not-accounts_rise : goal.returns-then-not-accounts_rise
+returns-then-not-accounts_rise g c =
     let ls = c.args.lines.now in
     let f = g.L.Weighted.weight in
     let p = ends_at_accounts c.args.amount (map f ls) (map g.L.AccountLine.account ls) c.args.parts.now
-    (ap (λ y. figures_in_limit y (map f ls)) (sym (to_z-of_z w64 c.args.amount c.ranges.amount)) ∙ sym c.figures-in-limit.ensures ∙ c.if-not-figures-in-limit.false)
-    (sym c.accounts-rise.ensures ∙ c.if-not-accounts-rise.true) in
+    (ap (λ y. figures_in_limit y (map f ls)) (sym (to_z-of_z w64 c.args.amount c.ranges.amount)) ∙ sym c.figures_in_limit.ensures ∙ c.if-not-figures_in_limit.false)
+    (sym c.accounts_rise.ensures ∙ c.if-not-accounts_rise.true) in
     record { answer = p.0; after = p.1; fair = tt; refused = λ _. refl; beyond = refl }
 
 pub returns-then-parts-count : goal.returns-then-parts-count
@@ -33,31 +33,31 @@ returns-then-parts-count g c =
     let ls = c.args.lines.now in
     let f = g.L.Weighted.weight in
     let p = ends_at_places c.args.amount (map f ls) (map g.L.AccountLine.account ls) c.args.parts.now
-    (ap (λ y. figures_in_limit y (map f ls)) (sym (to_z-of_z w64 c.args.amount c.ranges.amount)) ∙ sym c.figures-in-limit.ensures ∙ c.if-not-figures-in-limit.false)
-    (sym c.accounts-rise.ensures ∙ c.if-not-accounts-rise.false) (omega (arith, length-map ls f, c.if-parts-count.true)) in
+    (ap (λ y. figures_in_limit y (map f ls)) (sym (to_z-of_z w64 c.args.amount c.ranges.amount)) ∙ sym c.figures_in_limit.ensures ∙ c.if-not-figures_in_limit.false)
+    (sym c.accounts_rise.ensures ∙ c.if-not-accounts_rise.false) (omega (arith, length-map ls f, c.if-parts-count.true)) in
     record { answer = p.0; after = p.1; fair = tt; refused = λ _. refl; beyond = refl }
 
 -- the figures are within their limits
-pub copy-weights-requires : goal.copy-weights-requires
-copy-weights-requires g c =
+pub copy_weights-requires : goal.copy_weights-requires
+copy_weights-requires g c =
     let ls = c.args.lines.now in
     let f = g.L.Weighted.weight in
-    omega (arith, length-map ls f, (figures_parts (to_z w64 (of_z w64 c.args.amount)) (map f ls) (sym c.figures-in-limit.ensures ∙ c.if-not-figures-in-limit.false)).1)
+    omega (arith, length-map ls f, (figures_parts (to_z w64 (of_z w64 c.args.amount)) (map f ls) (sym c.figures_in_limit.ensures ∙ c.if-not-figures_in_limit.false)).1)
 
-pub slice-bounds-spread-end : goal.slice-bounds-spread-end
-slice-bounds-spread-end g c =
+pub slice_bounds-spread-end : goal.slice_bounds-spread-end
+slice_bounds-spread-end g c =
     let ls = c.args.lines.now in
     let f = g.L.Weighted.weight in
-    let few : length ls ≤ 64 = omega (arith, length-map ls f, (figures_parts (to_z w64 (of_z w64 c.args.amount)) (map f ls) (sym c.figures-in-limit.ensures ∙ c.if-not-figures-in-limit.false)).1) in
+    let few : length ls ≤ 64 = omega (arith, length-map ls f, (figures_parts (to_z w64 (of_z w64 c.args.amount)) (map f ls) (sym c.figures_in_limit.ensures ∙ c.if-not-figures_in_limit.false)).1) in
     search rules
 
 pub spread-requires : goal.spread-requires
 spread-requires g c =
     let ls = c.args.lines.now in
     let f = g.L.Weighted.weight in
-    let ok = figures_parts (to_z w64 (of_z w64 c.args.amount)) (map f ls) (sym c.figures-in-limit.ensures ∙ c.if-not-figures-in-limit.false) in
-    let same : take (length ls - 0) c.copy-weights.new.weights ≡ map counting_weight (map f ls) = ap (λ n. take n c.copy-weights.new.weights) (omega arith) ∙ c.copy-weights.ensures in
-    let long : length (take (length ls - 0) c.copy-weights.new.weights) ≡ length ls = ap length same ∙ length-map (map f ls) counting_weight ∙ length-map ls f in
+    let ok = figures_parts (to_z w64 (of_z w64 c.args.amount)) (map f ls) (sym c.figures_in_limit.ensures ∙ c.if-not-figures_in_limit.false) in
+    let same : take (length ls - 0) c.copy_weights.new.weights ≡ map counting_weight (map f ls) = ap (λ n. take n c.copy_weights.new.weights) (omega arith) ∙ c.copy_weights.ensures in
+    let long : length (take (length ls - 0) c.copy_weights.new.weights) ≡ length ls = ap length same ∙ length-map (map f ls) counting_weight ∙ length-map ls f in
     record {
       limits = (omega (arith, long, length-map ls f, ok.1), λ k. subst (λ xs. get_or xs k 0 ≤ max_weight) (sym same) (counting_in_limit (map f ls) ok.2 k));
       small = ok.0;
@@ -73,10 +73,10 @@ returns g c =
     let z = c.args.amount in
     let ws = map counting_weight (map f ls) in
     let zed = to_z-of_z w64 z c.ranges.amount in
-    let up = sym c.accounts-rise.ensures ∙ c.if-not-accounts-rise.false in
-    let same : take (length ls - 0) c.copy-weights.new.weights ≡ ws = ap (λ n. take n c.copy-weights.new.weights) (omega arith) ∙ c.copy-weights.ensures in
+    let up = sym c.accounts_rise.ensures ∙ c.if-not-accounts_rise.false in
+    let same : take (length ls - 0) c.copy_weights.new.weights ≡ ws = ap (λ n. take n c.copy_weights.new.weights) (omega arith) ∙ c.copy_weights.ensures in
     let p = ends_shared z (map f ls) cs ps
-    (ap (λ y. figures_in_limit y (map f ls)) (sym zed) ∙ sym c.figures-in-limit.ensures ∙ c.if-not-figures-in-limit.false) up (omega (arith, length-map ls f, c.if-parts-count.false)) in
+    (ap (λ y. figures_in_limit y (map f ls)) (sym zed) ∙ sym c.figures_in_limit.ensures ∙ c.if-not-figures_in_limit.false) up (omega (arith, length-map ls f, c.if-parts-count.false)) in
     let shared : c.spread.new.parts ≡ written (part z ws) (length ws) ps = c.spread.ensures.after ∙ ap₂ (λ y xs. written (part y xs) (length xs) ps) zed same in
     let kept : to_z w64 (of_z w64 c.spread.result) ≡ unshared z ws = to_z-of_z w64 c.spread.result (record { sfits = c.spread.type_inv }) ∙ c.spread.ensures.answer ∙ ap₂ unshared zed same in
     let long : length ws ≡ length ls = length-map (map f ls) counting_weight ∙ length-map ls f in

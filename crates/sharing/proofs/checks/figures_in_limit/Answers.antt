@@ -1,4 +1,4 @@
-use Rattle.std.proofs.Common.{◌≡◌, map, sym, ap, ◌∙◌, inl, inr, arith, w64}
+use Rattle.std.proofs.Common.{map, sym, ap, ◌∙◌, inl, inr, arith, w64}
 use Rattle.std.proofs.lemmas.List.{length-map}
 use Rattle.std.proofs.lemmas.Int.{to_z-of_z}
 use Rattle.amounts.specs.Ranges.{within}
@@ -18,5 +18,5 @@ returns g c =
     let ls = c.args.lines.now in
     let f = g.L.Weighted.weight in
     let same = ap (λ z. within z max_amount) (sym (to_z-of_z w64 c.args.amount c.ranges.amount)) ∙ sym c.within.ensures in
-    c.weights-in-limit.ensures
-    ∙ sym (figures_on c.args.amount (map f ls) (same ∙ c.if-not-within.false) (omega (arith, length-map ls f, c.if-lines-gt-MAX-LINES.false)))
+    c.weights_in_limit.ensures
+    ∙ sym (figures_on c.args.amount (map f ls) (same ∙ c.if-not-within.false) (omega (arith, length-map ls f, c.if-lines-gt-MAX_LINES.false)))

@@ -1,7 +1,4 @@
 use Rattle.std.proofs.Common.{set, pos, ap, ◌∙◌, arith}
-use Rattle.sharing.proofs.Fairness.{fair, fair_at}
-use Rattle.sharing.proofs.Signs.{parts_nearest}
-use Rattle.sharing.proofs.Steps.{size_from}
 use Rattle.sharing.proofs.Written.{written_more}
 use Rattle.sharing.proofs.spreading.clear.Goals as goal
 

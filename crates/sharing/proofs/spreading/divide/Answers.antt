@@ -1,11 +1,11 @@
-use Rattle.std.proofs.Common.{◌≡◌, ◌+◌, ◌<◌, ◌∙◌, arith, rules}
+use Rattle.std.proofs.Common.{◌+◌, ◌<◌, ◌∙◌, arith, rules}
 use Rattle.sharing.specs.Shares.{total_weight}
 use Rattle.sharing.proofs.Fair.{quotients_upto}
 use Rattle.sharing.proofs.Steps.{shared_more, remainders_more}
 use Rattle.sharing.proofs.spreading.divide.Goals as goal
 
-pub overflow-add-shared : goal.overflow-add-shared
-overflow-add-shared c =
+pub overflow_add-shared : goal.overflow_add-shared
+overflow_add-shared c =
     let ws = c.args.weights.now in
     let i = c.loop-i.i in
     let some : 0 < total_weight ws = omega arith in
@@ -18,8 +18,8 @@ loop-i-preserved c =
     let is = c.get-divisor.ensures ∙ c.requires.total in
     (shared_more c.args.size ws i c.get-divisor.result c.loop-i.shared is c.loop-i.invariant.0, remainders_more c.args.size ws c.loop-i.remainders i c.get-divisor.result is (omega arith) c.loop-i.invariant.1)
 
-pub overflow-sub-result : goal.overflow-sub-result
-overflow-sub-result c =
+pub overflow_sub-result : goal.overflow_sub-result
+overflow_sub-result c =
     let ws = c.args.weights.now in
     let some : 0 < total_weight ws = omega arith in
     omega (arith, c.loop-i.invariant.0, quotients_upto c.args.size ws some c.loop-i.i (omega arith))

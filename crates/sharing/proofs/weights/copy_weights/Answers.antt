@@ -6,8 +6,8 @@ use Rattle.sharing.proofs.weights.copy_weights.Goals as goal
 
 pub loop-i-preserved : goal.loop-i-preserved
 loop-i-preserved g c =
-    copied_more g.L.Weighted.weight c.args.lines.now c.loop-i.i c.index-lines-i.result c.loop-i.weights c.counting-weight.result c.loop-i-test.true (omega arith) c.index-lines-i.is
-    (c.counting-weight.ensures ∙ ap counting_weight (to_z-of_z w64 c.weight.result (record { sfits = c.weight.type_inv }) ∙ c.weight.ensures))
+    copied_more g.L.Weighted.weight c.args.lines.now c.loop-i.i c.index-lines-i.result c.loop-i.weights c.counting_weight.result c.loop-i-test.true (omega arith) c.index-lines-i.is
+    (c.counting_weight.ensures ∙ ap counting_weight (to_z-of_z w64 c.weight.result (record { sfits = c.weight.type_inv }) ∙ c.weight.ensures))
     c.loop-i.invariant
 
 pub returns : goal.returns
