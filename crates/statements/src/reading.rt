@@ -1,6 +1,6 @@
 // Reading a statement from a buffer.
 ghost use Rattle.std.specs.Prelude.{◌≡◌, ◌+◌, ◌≤◌, length};
-ghost use Rattle.amounts.specs.Ranges.{areas as area-count};
+ghost use Rattle.amounts.specs.Ranges.{areas as area_count};
 ghost use Rattle.statements.specs.Amounts.{amount_at};
 ghost use Rattle.statements.specs.Layout.{area_at, areas_at};
 ghost use Rattle.statements.specs.Outcomes.{statement_read};
@@ -41,7 +41,7 @@ fn read_area(bytes: &[u8], place: usize) -> AreaAmounts
 // The areas one after another, from the place on.
 fn read_areas(bytes: &[u8], place: usize) -> [AreaAmounts; AREA_COUNT]
     requires { place + 1280 ≤ length bytes.now }
-    ensures { result ≡ areas_at area-count bytes.now place }
+    ensures { result ≡ areas_at area_count bytes.now place }
 {
     let mut areas = [AreaAmounts::default(); AREA_COUNT];
     for (i, area) in areas.iter_mut().enumerate() {

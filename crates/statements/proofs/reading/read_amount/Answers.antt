@@ -11,7 +11,7 @@ returns c =
     let bs = c.args.bytes.now in
     let place = c.args.place in
     let eight : place + 8 - place ≡ 8 = omega arith in
-    let bytes = c.copy-from-slice.ensures.after ∙ ap (λ (n : ℕ). take n (drop place bs)) eight in
-    to_z-of_z w64 c.from-le-bytes.result (search rules)
-    ∙ c.from-le-bytes.ensures
-    ∙ ap (to_z w64) (number_of_8 c.copy-from-slice.new.self c.copy-from-slice.ensures.len ∙ ap number_of bytes)
+    let bytes = c.copy_from_slice.ensures.after ∙ ap (λ (n : ℕ). take n (drop place bs)) eight in
+    to_z-of_z w64 c.from_le_bytes.result (search rules)
+    ∙ c.from_le_bytes.ensures
+    ∙ ap (to_z w64) (number_of_8 c.copy_from_slice.new.self c.copy_from_slice.ensures.len ∙ ap number_of bytes)

@@ -16,8 +16,8 @@ loop-i-preserved c =
     let read = λ (k : ℕ). area_at bs (c.args.place + 64 * k) in
     let below : i < length items = omega (arith, c.loop-i.invariant.0) in
     let none = area_at bs 0 in (
-      length-set items i c.read-area.result ∙ c.loop-i.invariant.0,
-      λ k h. ap (λ (a : AreaAmounts). get_or (set items i a) k none) c.read-area.ensures ∙ fill_by_more read items i none below c.loop-i.invariant.1 k h,
+      length-set items i c.read_area.result ∙ c.loop-i.invariant.0,
+      λ k h. ap (λ (a : AreaAmounts). get_or (set items i a) k none) c.read_area.ensures ∙ fill_by_more read items i none below c.loop-i.invariant.1 k h,
     )
 
 pub returns : goal.returns

@@ -9,5 +9,5 @@ pub returns : goal.returns
 unfolding amount_bytes
 returns c =
     let same = to_z-of_z w64 c.args.amount c.ranges.amount in
-    let bytes = simp same at c.to-le-bytes.ensures in
-    ap (λ (bs : List _). bs ++ drop 8 c.args.tail.now) (c.copy-from-slice.ensures.after ∙ bytes ∙ low_bytes_8 (of_z w64 c.args.amount))
+    let bytes = simp same at c.to_le_bytes.ensures in
+    ap (λ (bs : List _). bs ++ drop 8 c.args.tail.now) (c.copy_from_slice.ensures.after ∙ bytes ∙ low_bytes_8 (of_z w64 c.args.amount))

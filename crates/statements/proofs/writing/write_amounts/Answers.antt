@@ -13,10 +13,10 @@ loop-i-preserved c =
     let amount = get_or c.args.amounts.now i (pos 0) in
     let fits : SFits w64 amount = search rules in
     let with_rest = λ (z : ℤ). amount_bytes z ++ drop 8 (take (length tail - 8 * i) (drop (8 * i) tail)) in
-    written_more amount_bytes 8 length_amount_bytes c.args.amounts.now c.args.tail.now tail c.write-amount.new.tail i (pos 0)
+    written_more amount_bytes 8 length_amount_bytes c.args.amounts.now c.args.tail.now tail c.write_amount.new.tail i (pos 0)
     c.loop-i-test.true
     c.loop-i.invariant
-    (c.write-amount.ensures ∙ ap with_rest (to_z-of_z w64 amount fits))
+    (c.write_amount.ensures ∙ ap with_rest (to_z-of_z w64 amount fits))
 
 pub returns : goal.returns
 returns c = written_all amount_bytes 8 length_amount_bytes c.args.amounts.now c.args.tail.now c.loop-i.tail c.loop-i.i (omega arith) c.loop-i.invariant

@@ -8,6 +8,6 @@ use Rattle.statements.proofs.writing.write_area.Goals as goal
 pub returns : goal.returns
 unfolding area_bytes
 returns c = record {
-  after = c.write-amounts.ensures ∙ ap (λ (xs : List ℤ). flat_map amount_bytes xs ++ drop (8 * length xs) c.args.tail.now) c.amounts-of.ensures.amounts;
-  fits = c.amounts-of.ensures.fits;
+  after = c.write_amounts.ensures ∙ ap (λ (xs : List ℤ). flat_map amount_bytes xs ++ drop (8 * length xs) c.args.tail.now) c.amounts_of.ensures.amounts;
+  fits = c.amounts_of.ensures.fits;
 }

@@ -12,11 +12,11 @@ pub loop-i-preserved : goal.loop-i-preserved
 loop-i-preserved c =
     let areas = c.args.areas.now in
     let i = c.loop-i.i in (
-      written_more area_bytes 64 length_area_bytes areas c.args.tail.now c.loop-i.tail c.write-area.new.tail i _
+      written_more area_bytes 64 length_area_bytes areas c.args.tail.now c.loop-i.tail c.write_area.new.tail i _
           c.loop-i-test.true
           c.loop-i.invariant.0
-          c.write-area.ensures.after,
-      All-more AreaFits areas i _ c.loop-i-test.true c.loop-i.invariant.1 c.write-area.ensures.fits,
+          c.write_area.ensures.after,
+      All-more AreaFits areas i _ c.loop-i-test.true c.loop-i.invariant.1 c.write_area.ensures.fits,
     )
 
 pub returns : goal.returns

@@ -12,14 +12,14 @@ returns c =
     let s = c.args.statement.now in
     let twenty : length s.areas ≡ areas = search rules in
     let fits : SFits w64 s.cost = search rules in
-    let first = c.write-account.new.tail in
-    let second = put_mid 1 (length first - 1) first c.write-areas.new.tail in
+    let first = c.write_account.new.tail in
+    let second = put_mid 1 (length first - 1) first c.write_areas.new.tail in
     let with_rest = λ (z : ℤ). amount_bytes z ++ drop 8 (take (length second - 1281) (drop 1281 second)) in
     record {
-      after = parts_written s twenty c.args.tail.now first c.write-areas.new.tail second c.write-amount.new.tail
-          c.write-account.ensures
-          c.write-areas.ensures.after
+      after = parts_written s twenty c.args.tail.now first c.write_areas.new.tail second c.write_amount.new.tail
+          c.write_account.ensures
+          c.write_areas.ensures.after
           refl
-          (c.write-amount.ensures ∙ ap with_rest (to_z-of_z w64 s.cost fits));
-      fits = record { long = twenty; in_areas = c.write-areas.ensures.fits; cost = fits };
+          (c.write_amount.ensures ∙ ap with_rest (to_z-of_z w64 s.cost fits));
+      fits = record { long = twenty; in_areas = c.write_areas.ensures.fits; cost = fits };
     }

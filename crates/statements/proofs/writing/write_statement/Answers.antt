@@ -11,11 +11,11 @@ returns c =
     let s = c.args.statement.now in
     let bs = c.args.buffer.now in
     let place = c.args.place in
-    let exists : account_exists s.account ≡ true = sym c.if-not-account-exists.ensures in
-    let has : has_room (length bs) place ≡ true = sym c.if-not-has-room.ensures in
+    let exists : account_exists s.account ≡ true = sym c.if-not-account_exists.ensures in
+    let has : has_room (length bs) place ≡ true = sym c.if-not-has_room.ensures in
     let room : place + statement_size ≤ length bs = leb-true (place + statement_size) (length bs) has in
-    let fits = c.write-parts.ensures.fits in
-    let written = put_statement s bs place room c.write-parts.new.tail c.write-parts.ensures.after in
+    let fits = c.write_parts.ensures.fits in
+    let written = put_statement s bs place room c.write_parts.new.tail c.write_parts.ensures.after in
     record {
       answer = search rules;
       after = written ∙ sym (ap (λ (b : Bool). cond b (statement_written s bs place) bs) (ap (λ (b : Bool). b && has_room (length bs) place) exists ∙ has));
