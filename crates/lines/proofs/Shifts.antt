@@ -1,5 +1,5 @@
 -- A loop that moves the lines of a list up by one, from the last to a position. Assumes nothing.
-use Rattle.std.proofs.Common.{◌≡◌, ℕ, ◌+◌, ◌-◌, ◌<◌, ◌≤◌, List, [], ◌∷◌, ◌++◌, length, get_or, take, drop, set, sym, ap, ◌∙◌, arith, take-append-drop}
+use Rattle.std.proofs.Common.{◌≡◌, ℕ, ◌+◌, ◌<◌, ◌≤◌, List, [], ◌∷◌, ◌++◌, length, get_or, take, drop, set, sym, ap, ◌∙◌, arith, take-append-drop}
 use Rattle.std.proofs.lemmas.List.{append_assoc, take_more, drop_more, drop_all, take-take, take_at, drop_at, drop-drop, set_at, get_or-take, get_or_append_left, length-take-le, length-drop, length-append}
 use Rattle.std.specs.List.{insert}
 

@@ -21,7 +21,7 @@ impl<'a, L: Line> OrderedList<'a, L> {
     pub fn new(lines: &'a mut [L]) -> Self
         ensures empty { contents result ≡ [] }
         ensures unused { spare result ≡ lines.old }
-        ensures rising { Rising key (contents result) }
+        ensures rising { Rising L.key (contents result) }
         ensures lent { result.lines.ghost_name ≡ lines.entry.ghost_name }
     {
         OrderedList { lines, count: 0 }
@@ -38,25 +38,25 @@ impl<'a, L: Line> OrderedList<'a, L> {
     // How many lines the list has.
     pub fn count(&self) -> usize
         ensures count { result ≡ length (contents self.now) }
-        ensures keys { Rising key (contents self.now) → OneLinePerKey key (contents self.now) }
+        ensures keys { Rising L.key (contents self.now) → OneLinePerKey L.key (contents self.now) }
     {
         self.used().len()
     }
 
     // The line that has the wanted key.
     pub fn find(&self, wanted: u64) -> Option<L>
-        ensures answer { result ≡ lookup key wanted (contents self.now) }
-        ensures law { LineOf key wanted (Rising key (contents self.now)) (contents self.now) result }
+        ensures answer { result ≡ lookup L.key wanted (contents self.now) }
+        ensures law { LineOf L.key wanted (Rising L.key (contents self.now)) (contents self.now) result }
     {
         line_with_key(self.used(), wanted)
     }
 
     // Adds the line at the position of its key.
     pub fn add(&mut self, line: L) -> Result<(), ListFault>
-        ensures answer { result ≡ to_add key (length (memory self.old)) (contents self.old) line }
-        ensures after { contents self.new ≡ (if is_ok result then with_line key line (contents self.old) else contents self.old) }
-        ensures finds { (k : ℕ) → lookup key k (contents self.new) ≡ (if is_ok result && (key line) == k then Some line else lookup key k (contents self.old)) }
-        ensures rising { Rising key (contents self.old) → Rising key (contents self.new) }
+        ensures answer { result ≡ to_add L.key (length (memory self.old)) (contents self.old) line }
+        ensures after { contents self.new ≡ (if is_ok result then with_line L.key line (contents self.old) else contents self.old) }
+        ensures finds { (k : ℕ) → lookup L.key k (contents self.new) ≡ (if is_ok result && (L.key line) == k then Some line else lookup L.key k (contents self.old)) }
+        ensures rising { Rising L.key (contents self.old) → Rising L.key (contents self.new) }
         ensures unused { spare self.new ≡ drop (if is_ok result then 1 else 0) (spare self.old) }
         ensures room { length (memory self.new) ≡ length (memory self.old) }
         ensures refused { is_ok result ≡ false → memory self.new ≡ memory self.old }
@@ -78,10 +78,10 @@ impl<'a, L: Line> OrderedList<'a, L> {
 
     // Puts the line in place of the one that has its key.
     pub fn replace(&mut self, line: L) -> Result<(), ListFault>
-        ensures answer { result ≡ to_replace key (contents self.old) line }
-        ensures after { contents self.new ≡ (if is_ok result then with_replaced key line (contents self.old) else contents self.old) }
-        ensures finds { (k : ℕ) → lookup key k (contents self.new) ≡ (if is_ok result && (key line) == k then Some line else lookup key k (contents self.old)) }
-        ensures rising { Rising key (contents self.old) → Rising key (contents self.new) }
+        ensures answer { result ≡ to_replace L.key (contents self.old) line }
+        ensures after { contents self.new ≡ (if is_ok result then with_replaced L.key line (contents self.old) else contents self.old) }
+        ensures finds { (k : ℕ) → lookup L.key k (contents self.new) ≡ (if is_ok result && (L.key line) == k then Some line else lookup L.key k (contents self.old)) }
+        ensures rising { Rising L.key (contents self.old) → Rising L.key (contents self.new) }
         ensures unused { spare self.new ≡ spare self.old }
         ensures room { length (memory self.new) ≡ length (memory self.old) }
         ensures refused { is_ok result ≡ false → memory self.new ≡ memory self.old }

@@ -7,7 +7,7 @@ use crate::line::Line;
 
 // How many lines come before the first whose key is not below the wanted one.
 pub(crate) fn position<L: Line>(lines: &[L], wanted: u64) -> usize
-    ensures point { result ≡ insertion_point key wanted lines.now }
+    ensures point { result ≡ insertion_point L.key wanted lines.now }
     ensures within { result ≤ length lines.now }
 {
     for (i, line) in lines.iter().enumerate() {
@@ -20,7 +20,7 @@ pub(crate) fn position<L: Line>(lines: &[L], wanted: u64) -> usize
 
 // The line that has the wanted key. The lines are read from the first, as far as the first whose key is not below it.
 pub(crate) fn line_with_key<L: Line>(lines: &[L], wanted: u64) -> Option<L>
-    ensures { result ≡ lookup key wanted lines.now }
+    ensures { result ≡ lookup L.key wanted lines.now }
 {
     let i = position(lines, wanted);
     if i == lines.len() {

@@ -1,4 +1,4 @@
-use Rattle.std.proofs.Common.{cond, ltb, ◌∙◌, arith}
+use Rattle.std.proofs.Common.{ltb, ◌∙◌, arith}
 use Rattle.std.proofs.lemmas.Bool.{cond-true, cond-false, lt-ltb, le-ltb}
 use Rattle.lines.proofs.Lookups.{point_more, point_all}
 use Rattle.lines.proofs.position.position.Goals as goal

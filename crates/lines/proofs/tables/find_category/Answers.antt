@@ -8,4 +8,4 @@ use Rattle.lines.proofs.tables.find_category.Goals as goal
 pub returns : goal.returns
 returns c =
     let fits : Fit category_widths (category_fields c.args.category) = (c.ranges.category.fits, tt) in
-    asked category_widths fields_of_category category_fit (category_fields c.args.category) fits (contents c.args.table.now) c.key-at.result c.find.result c.key-at.ensures.key c.find.ensures.answer
+    asked category_widths fields_of_category category_fit (category_fields c.args.category) fits (contents c.args.table.now) c.key_at.result c.find.result c.key_at.ensures.key c.find.ensures.answer

@@ -1,4 +1,4 @@
-use Rattle.std.proofs.Common.{◌<◌, false, List, length, take, drop, sym, refl, ap, ◌∙◌, arith, rules}
+use Rattle.std.proofs.Common.{◌<◌, false, List, length, drop, sym, refl, ap, ◌∙◌, arith, rules}
 use Rattle.std.specs.List.{insert}
 use Rattle.std.proofs.lemmas.List.{length-take}
 use Rattle.lines.specs.Contents.{contents, memory}
@@ -12,8 +12,8 @@ insert-requires g c =
     let same = ap length c.used-2.ensures in
     record { among = omega (arith, c.position-to.ensures.within); room = omega (arith, c.if-count-self.false) }
 
-pub overflow-add-self : goal.overflow-add-self
-overflow-add-self g c =
+pub overflow_add-self : goal.overflow_add-self
+overflow_add-self g c =
     let short = length-take c.args.self.now.count (memory c.args.self.now) in
     let count = c.count-count.ensures.count in
     let room : c.count-count.result < length (memory c.args.self.now) = omega (arith, c.if-count-self.false) in
@@ -29,7 +29,7 @@ returns g c =
     let short = length-take n lines in
     let count = c.count-count.ensures.count in
     let room : c.count-count.result < length lines = omega (arith, c.if-count-self.false) in
-    let absent = found_in key line xs c.used.result.now c.key-key.result c.key-key.ensures c.used.ensures c.line-with-key.result false c.line-with-key.ensures (sym c.if-is-some.ensures) in
+    let absent = found_in key line xs c.used.result.now c.key-key.result c.key-key.ensures c.used.ensures c.line_with_key.result false c.line_with_key.ensures (sym c.if-is_some.ensures) in
     let point = point_in key line xs c.used-2.result.now c.key-key.result c.key-key.ensures c.used-2.ensures c.position-to.result c.position-to.ensures.point in
     let is = c.insert.ensures.front
     ∙ ap (λ (ys : List g.row.L.Denot). insert ys c.position-to.result line) (take_count lines n c.count-count.result count)

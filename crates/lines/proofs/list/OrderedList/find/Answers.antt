@@ -9,5 +9,5 @@ pub returns : goal.returns
 returns g c =
     let key = g.L.Line.key in
     let xs = contents c.args.self.now in
-    let is = c.line-with-key.ensures ∙ ap (lookup key c.args.wanted) c.used.ensures in
+    let is = c.line_with_key.ensures ∙ ap (lookup key c.args.wanted) c.used.ensures in
     record { answer = is; law = subst (LineOf key c.args.wanted (Rising key xs) xs) (sym is) (line_of_key key c.args.wanted xs) }
