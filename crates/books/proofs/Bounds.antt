@@ -1,5 +1,5 @@
 -- No answer of a book is out of range. Assumes nothing.
-use Rattle.std.proofs.Common.{◌≡◌, ℕ, suc, ◌*◌, ◌/◌, ◌%◌, ◌<◌, ◌≤◌, true, false, cond, leb, List, IfSome, Some, None, sym, ap, inl, inr, mul-le-mul_right, mod-lt, arith}
+use Rattle.std.proofs.Common.{◌≡◌, ℕ, suc, ◌*◌, ◌/◌, ◌%◌, ◌<◌, ◌≤◌, true, false, cond, List, IfSome, Some, None, sym, ap, inl, inr, mul-le-mul_right, mod-lt, arith}
 use native.Mathlib.Nat.{div-add-mod}
 use Rattle.std.specs.Option.{option_map, option_flatten}
 use Rattle.std.proofs.lemmas.Nat.{mul-le}

@@ -5,16 +5,16 @@ use Rattle.books.specs.Figures.{max_rate_consumption, rate_regeneration}
 use Rattle.books.proofs.Bounds.{rate_regeneration_le}
 use Rattle.books.proofs.rate.regeneration_of.Goals as goal
 
-pub rounded-quotient-requires : goal.rounded-quotient-requires
-rounded-quotient-requires c = omega (arith, mul-le c.from.result c.from-2.result max_rate_consumption max_discount (omega arith) (omega arith))
+pub rounded_quotient-requires : goal.rounded_quotient-requires
+rounded_quotient-requires c = omega (arith, mul-le c.from.result c.from-2.result max_rate_consumption max_discount (omega arith) (omega arith))
 
-pub overflow-cast-result : goal.overflow-cast-result
-overflow-cast-result c =
+pub overflow_cast-result : goal.overflow_cast-result
+overflow_cast-result c =
     let low : rate_regeneration c.from.result c.from-2.result ≤ max_rate_consumption = rate_regeneration_le c.from.result c.from-2.result (omega arith) (omega arith) in
-    let is = c.rounded-quotient.ensures in
+    let is = c.rounded_quotient.ensures in
     search rules
 
 pub returns : goal.returns
 returns c =
-    let is : c.rounded-quotient.result ≡ rate_regeneration c.args.consumption c.args.discount = c.rounded-quotient.ensures ∙ ap₂ rate_regeneration c.from.ensures c.from-2.ensures in
+    let is : c.rounded_quotient.result ≡ rate_regeneration c.args.consumption c.args.discount = c.rounded_quotient.ensures ∙ ap₂ rate_regeneration c.from.ensures c.from-2.ensures in
     record { value = is; range = omega (arith, is, rate_regeneration_le c.args.consumption c.args.discount c.requires.consumption c.requires.discount) }
