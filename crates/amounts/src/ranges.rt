@@ -1,7 +1,7 @@
 // The ranges that every layer shares, each a constant and a test.
 ghost use Rattle.std.specs.Prelude.{◌≡◌};
 ghost use Rattle.amounts.specs.Ranges.{account_exists, area_exists, band_exists, price_in_range};
-ghost use Rattle.amounts.specs.Ranges.{within as in-limit};
+ghost use Rattle.amounts.specs.Ranges.{within as in_limit};
 
 // Accounts are numbered from 0.
 pub const ACCOUNTS: u8 = 64;
@@ -46,7 +46,7 @@ pub fn price_in_range(price: u32) -> bool
 
 // Whether the amount is at most the limit, up or down.
 pub fn within(amount: i64, limit: u64) -> bool
-    ensures { result ≡ in-limit amount limit }
+    ensures { result ≡ in_limit amount limit }
 {
     amount.unsigned_abs() <= limit
 }

@@ -37,7 +37,7 @@ fn fill_values<I: InfillBook>(
     metered: Metered,
     span: Span,
 ) -> Result<SlotValues, BookFault>
-    ensures answer { result ≡ fill_values (first_needing (described_metered metered.entry)) (values infill.now (kind_of metered.entry.leg) metered.entry.billing.category metered.entry.billing.area metered.entry.billing.band) span.place span.next }
+    ensures answer { result ≡ fill_values (first_needing (described_metered metered.entry)) (I.values infill.now (kind_of metered.entry.leg) metered.entry.billing.category metered.entry.billing.area metered.entry.billing.band) span.place span.next }
     ensures range { IfOk result ValuesInRange }
 {
     let Some(slot) = first_needing(metered) else {
@@ -68,7 +68,7 @@ pub(crate) fn metered_volume<I: InfillBook>(
 ) -> Result<Volume, BookFault>
     requires ranged { MeteredRanged (described_metered metered) }
     requires whole { WholeRecord (described_metered metered) }
-    ensures { result ≡ metered_volume (contents categories.now) (contents losses.now) (values infill.now) (described_metered metered.entry) span.place span.next }
+    ensures { result ≡ metered_volume (contents categories.now) (contents losses.now) (I.values infill.now) (described_metered metered.entry) span.place span.next }
 {
     let Span { place, next } = span;
     let Some(line) = line_for_leg(categories, metered.billing.category, metered.leg) else {

@@ -35,7 +35,7 @@ pub fn close<T: TariffBook, I: InfillBook, W: Watch>(
     energy: u64,
     watch: &mut W,
 ) -> Result<SettledYear, CloseFault>
-    ensures { Closes (sources (contents categories.now) (contents losses.now) (prices tariff.now) (values infill.now)) batch.now sheet.now costs.now energy (block cells.old accounts.old) result (block cells.new accounts.new) }
+    ensures { Closes (sources (contents categories.now) (contents losses.now) (T.prices tariff.now) (I.values infill.now)) batch.now sheet.now costs.now energy (block cells.old accounts.old) result (block cells.new accounts.new) }
 {
     let Ok(year) = OpenYear::open(cells, accounts) else {
         return Err(CloseFault::Counts);

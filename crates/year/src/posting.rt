@@ -26,8 +26,8 @@ fn post_checked<T: TariffBook, I: InfillBook>(
     place: usize,
 ) -> Result<usize, PostFault>
     requires { length cells.old ≡ cell_count }
-    ensures answer { result ≡ next_of (within_cell cells.old place (bill_at (sources (contents categories.now) (contents losses.now) (prices tariff.now) (values infill.now)) batch.now place)) }
-    ensures after { cells.new ≡ cells_after cells.old (within_cell cells.old place (bill_at (sources (contents categories.now) (contents losses.now) (prices tariff.now) (values infill.now)) batch.now place)) }
+    ensures answer { result ≡ next_of (within_cell cells.old place (bill_at (sources (contents categories.now) (contents losses.now) (T.prices tariff.now) (I.values infill.now)) batch.now place)) }
+    ensures after { cells.new ≡ cells_after cells.old (within_cell cells.old place (bill_at (sources (contents categories.now) (contents losses.now) (T.prices tariff.now) (I.values infill.now)) batch.now place)) }
 {
     let bill = bill_record(categories, losses, tariff, infill, batch, place)?;
     enter(cells, place, bill)?;
@@ -45,7 +45,7 @@ fn post_one<T: TariffBook, I: InfillBook>(
     batch: &[u8],
     place: usize,
 ) -> Result<(OpenYear, usize), (OpenYear, PostFault)>
-    ensures { Posts (sources (contents categories.now) (contents losses.now) (prices tariff.now) (values infill.now)) year (block cells.old accounts.now) batch.now place result (block cells.new accounts.now) }
+    ensures { Posts (sources (contents categories.now) (contents losses.now) (T.prices tariff.now) (I.values infill.now)) year (block cells.old accounts.now) batch.now place result (block cells.new accounts.now) }
 {
     if !block_is_sound(cells, accounts) {
         return Err((year, PostFault::Ledger(LedgerFault::Block)));
@@ -74,8 +74,8 @@ impl OpenYear {
         batch: &[u8],
         place: usize,
     ) -> Result<(OpenYear, usize), (OpenYear, PostFault)>
-        ensures promise { Posts (sources (contents categories.now) (contents losses.now) (prices tariff.now) (values infill.now)) self (block cells.old accounts.now) batch.now place result (block cells.new accounts.now) }
-        ensures run { PostExtends (sources (contents categories.now) (contents losses.now) (prices tariff.now) (values infill.now)) self (block cells.old accounts.now) batch.now place result (block cells.new accounts.now) }
+        ensures promise { Posts (sources (contents categories.now) (contents losses.now) (T.prices tariff.now) (I.values infill.now)) self (block cells.old accounts.now) batch.now place result (block cells.new accounts.now) }
+        ensures run { PostExtends (sources (contents categories.now) (contents losses.now) (T.prices tariff.now) (I.values infill.now)) self (block cells.old accounts.now) batch.now place result (block cells.new accounts.now) }
         ensures forward { PostGoesForward (length batch.now) place result }
     {
         post_one(

@@ -1,6 +1,6 @@
 // Adjustments are written into a block once all of them are known.
 ghost use Rattle.std.specs.Prelude.{◌≡◌, length};
-ghost use Rattle.amounts.specs.Ranges.{accounts as account-count};
+ghost use Rattle.amounts.specs.Ranges.{accounts as account_count};
 ghost use Rattle.ledger.specs.Blocks.{cell_count};
 ghost use Rattle.year.specs.Outcomes.{with_volumes, with_costs, accounts_with_costs};
 
@@ -34,7 +34,7 @@ pub(crate) fn set_costs(cells: &mut [Cell], table: &[i64; CELLS])
 }
 
 pub(crate) fn set_accounts(accounts: &mut [AccountRecord], table: &[i64; ACCOUNTS as usize])
-    requires { length accounts.old ≡ account-count }
+    requires { length accounts.old ≡ account_count }
     ensures { accounts.new ≡ accounts_with_costs table.now }
 {
     for (i, cost) in table.iter().enumerate() {

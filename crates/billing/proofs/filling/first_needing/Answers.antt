@@ -10,7 +10,7 @@ unfolding lowest
 loop-slot-init c = refl
 
 pub loop-slot-preserved : goal.loop-slot-preserved
-loop-slot-preserved c = lowest_more (needs_value (described_metered c.args.metered)) c.loop-slot.slot c.loop-slot.invariant (sym c.if-needs-value.false ∙ c.needs-value.ensures)
+loop-slot-preserved c = lowest_more (needs_value (described_metered c.args.metered)) c.loop-slot.slot c.loop-slot.invariant (sym c.if-needs_value.false ∙ c.needs_value.ensures)
 
-pub returns-then-needs-value : goal.returns-then-needs-value
-returns-then-needs-value c = lowest_hit (needs_value (described_metered c.args.metered)) c.loop-slot.slot c.args.metered.slots c.loop-slot.invariant (sym c.if-needs-value.true ∙ c.needs-value.ensures) c.loop-slot-test.true
+pub returns-then-needs_value : goal.returns-then-needs_value
+returns-then-needs_value c = lowest_hit (needs_value (described_metered c.args.metered)) c.loop-slot.slot c.args.metered.slots c.loop-slot.invariant (sym c.if-needs_value.true ∙ c.needs_value.ensures) c.loop-slot-test.true

@@ -1,4 +1,4 @@
-use Rattle.std.proofs.Common.{◌≡◌, ℕ, ◌+◌, ◌-◌, ◌*◌, ◌≤◌, Some, None, sum, sym, ap, ◌∙◌, subst, ap₂, arith, rules}
+use Rattle.std.proofs.Common.{◌≡◌, ◌+◌, ◌-◌, ◌*◌, ◌≤◌, sum, sym, ap, ◌∙◌, subst, ap₂, arith, rules}
 use Rattle.std.proofs.lemmas.Nat.{mul-le}
 use Rattle.std.specs.Option.{option_map}
 use Rattle.records.specs.Blocks.{described_block}
@@ -8,8 +8,8 @@ use Rattle.billing.specs.Limits.{max_slot_value, max_net}
 use Rattle.billing.proofs.Sums.{filled_none, count_within, filled_block, filled_bound}
 use Rattle.billing.proofs.filling.total_filled.Goals as goal
 
-pub overflow-sub-missing : goal.overflow-sub-missing
-overflow-sub-missing c =
+pub overflow_sub-missing : goal.overflow_sub-missing
+overflow_sub-missing c =
     let same = ap (option_map described_block) c.in-Some.is in
     omega (arith, c.count.ensures.below, count_within (described_block c.in-Some.block) c.args.slots c.args.fill c.requires.slots (subst (BlockRanged c.args.slots) same c.requires.ranged) (subst Whole same c.requires.whole))
 
@@ -25,8 +25,8 @@ answered c =
     let value = ap₂ (λ t k. t + (n - k) * v) c.total.ensures c.count.ensures.below ∙ filled_block b n v c.requires.slots ranged whole in
     (value ∙ ap (λ o. sum (filled o n v)) (sym same), omega (arith, value, filled_bound b n v c.requires.slots ranged whole c.requires.fill, c.requires.slots))
 
-pub overflow-add-result : goal.overflow-add-result
-overflow-add-result c = let h = (answered c).1 in search rules
+pub overflow_add-result : goal.overflow_add-result
+overflow_add-result c = let h = (answered c).1 in search rules
 
 pub returns-in-None : goal.returns-in-None
 returns-in-None c =

@@ -1,4 +1,4 @@
-use Rattle.std.proofs.Common.{◌≡◌, ℕ, ◌≤◌, ℤ, pos, ◌-ℤ◌, nat_abs, sum, ap, ◌∙◌, ap₂, arith, w64, SFits, to_z, of_z}
+use Rattle.std.proofs.Common.{◌≡◌, ℕ, ◌≤◌, pos, ◌-ℤ◌, nat_abs, sum, ap, ◌∙◌, ap₂, arith, w64, SFits, to_z, of_z}
 use borrow.Author.Differences.{ints}
 use Rattle.std.proofs.lemmas.Int.{to_z-of_z, to_z_pos}
 use Rattle.records.specs.Records.{described_metered}
@@ -19,11 +19,11 @@ pub returns : goal.returns
 unfolding net
 returns c =
     let r = described_metered c.args.metered in
-    let a = c.total-filled-consumption.result in
-    let b = c.total-filled-regeneration.result in
-    let la = c.total-filled-consumption.ensures.bound in
-    let lb = c.total-filled-regeneration.ensures.bound in
-    let ea = c.total-filled-consumption.ensures.value ∙ ap (λ v. sum (filled r.consumption r.slots v)) c.fill-of-fill.ensures.consumption in
-    let eb = c.total-filled-regeneration.ensures.value ∙ ap (λ v. sum (filled r.regeneration r.slots v)) c.fill-of-fill.ensures.regeneration in
+    let a = c.total_filled-consumption.result in
+    let b = c.total_filled-regeneration.result in
+    let la = c.total_filled-consumption.ensures.bound in
+    let lb = c.total_filled-regeneration.ensures.bound in
+    let ea = c.total_filled-consumption.ensures.value ∙ ap (λ v. sum (filled r.consumption r.slots v)) c.fill_of-fill.ensures.consumption in
+    let eb = c.total_filled-regeneration.ensures.value ∙ ap (λ v. sum (filled r.regeneration r.slots v)) c.fill_of-fill.ensures.regeneration in
     let value = difference a b la lb in
     record { net = value ∙ ap₂ (λ x y. pos x -ℤ pos y) ea eb; bound = omega (arith, ap nat_abs value, within_net a b la lb) }
