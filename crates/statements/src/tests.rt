@@ -24,17 +24,20 @@ fn sample(account: u8) -> Statement {
 fn a_statement_is_written_at_its_place_and_nowhere_else(rt: HostRuntime) -> Result<(), Fail> {
     let mut buffer = [170; 1_300];
     write_statement(&mut buffer, 3, &sample(5))?;
-    assert_eq!(rt; &buffer[0..5], &[170, 170, 170, 5, 64]);
-    assert_eq!(rt; &buffer[5..12], &[66, 15, 0, 0, 0, 0, 0]);
-    assert_eq!(rt; &buffer[12..20], &[255; 8]);
-    assert_eq!(rt; &buffer[20..28], &[0; 8]);
+    assert_eq!(rt; &buffer[0..5], [170, 170, 170, 5, 64].as_slice());
+    assert_eq!(rt; &buffer[5..12], [66, 15, 0, 0, 0, 0, 0].as_slice());
+    assert_eq!(rt; &buffer[12..20], [255; 8].as_slice());
+    assert_eq!(rt; &buffer[20..28], [0; 8].as_slice());
     assert_eq!(rt;
         &buffer[1_268..1_276],
-        &[0, 255, 255, 255, 255, 255, 255, 255]
+        [0, 255, 255, 255, 255, 255, 255, 255].as_slice()
     );
-    assert_eq!(rt; &buffer[1_276..1_284], &[0, 0, 0, 0, 0, 0, 0, 128]);
-    assert_eq!(rt; &buffer[1_284..1_292], &[2, 1, 0, 0, 0, 0, 0, 0]);
-    assert_eq!(rt; &buffer[1_292..1_300], &[170; 8]);
+    assert_eq!(rt;
+        &buffer[1_276..1_284],
+        [0, 0, 0, 0, 0, 0, 0, 128].as_slice()
+    );
+    assert_eq!(rt; &buffer[1_284..1_292], [2, 1, 0, 0, 0, 0, 0, 0].as_slice());
+    assert_eq!(rt; &buffer[1_292..1_300], [170; 8].as_slice());
     Ok(())
 }
 
@@ -65,7 +68,7 @@ fn a_refused_statement_leaves_the_buffer(rt: HostRuntime) {
         write_statement(&mut buffer, usize::MAX, &sample(0)),
         Err(StatementFault::TooFewBytes)
     );
-    assert_eq!(rt; &buffer[0..1_300], &[170; 1_300]);
+    assert_eq!(rt; &buffer[0..1_300], [170; 1_300].as_slice());
     assert_eq!(rt;
         read_statement(&buffer, 0),
         Err(ReadStatementFault::NoSuchAccount)
