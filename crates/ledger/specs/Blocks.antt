@@ -1,5 +1,5 @@
 -- The block of a year: a cell for each account and area, and a record for each account.
-use Rattle.std.specs.Prelude.{ℕ, ◌+◌, ◌*◌, List, replicate, ℤ, pos, slice_index_or}
+use Rattle.std.specs.Prelude.{ℕ, ◌+◌, ◌*◌, List, replicate, pos, slice_index_or}
 use Rattle.amounts.specs.Ranges.{accounts, areas}
 use Rattle.ledger.specs.declared.block.AccountRecord.{AccountRecord}
 use Rattle.ledger.specs.declared.block.Cell.{Cell}

@@ -1,5 +1,5 @@
 -- The limits of a block: a limit itself is allowed, up or down.
-use Rattle.std.specs.Prelude.{◌≡◌, ℕ, ◌<◌, Bool, true, ◌&&◌, List, [], ◌∷◌, length, ◌==◌, slice_index_or}
+use Rattle.std.specs.Prelude.{◌≡◌, ℕ, Bool, true, ◌&&◌, List, [], ◌∷◌, length, ◌==◌, slice_index_or}
 use Rattle.amounts.specs.Ranges.{accounts, within}
 use Rattle.ledger.specs.declared.block.AccountRecord.{AccountRecord}
 use Rattle.ledger.specs.declared.block.Cell.{Cell}

@@ -4,14 +4,14 @@ use Rattle.ledger.specs.Blocks.{zero_account}
 use Rattle.ledger.specs.Limits.{accounts_within}
 use Rattle.ledger.proofs.checks.accounts_within.Goals as goal
 
-pub returns-then-not-account-within : goal.returns-then-not-account-within
-returns-then-not-account-within c =
-    ap (λ (b : Bool). b && accounts_within (drop (c.loop-account.account-index + 1) c.args.accounts.now)) c.if-not-account-within.ensures
+pub returns-then-not-account_within : goal.returns-then-not-account_within
+returns-then-not-account_within c =
+    ap (λ (b : Bool). b && accounts_within (drop (c.loop-account.account-index + 1) c.args.accounts.now)) c.if-not-account_within.ensures
     ∙ sym (at_drop_more accounts_within c.args.accounts.now c.loop-account.account-index zero_account c.loop-account-test.true) ∙ c.loop-account.invariant
 
 pub loop-account-preserved : goal.loop-account-preserved
 loop-account-preserved c =
-    ap (λ (b : Bool). b && accounts_within (drop (c.loop-account.account-index + 1) c.args.accounts.now)) c.if-not-account-within.ensures
+    ap (λ (b : Bool). b && accounts_within (drop (c.loop-account.account-index + 1) c.args.accounts.now)) c.if-not-account_within.ensures
     ∙ sym (at_drop_more accounts_within c.args.accounts.now c.loop-account.account-index zero_account c.loop-account-test.true) ∙ c.loop-account.invariant
 
 pub returns : goal.returns

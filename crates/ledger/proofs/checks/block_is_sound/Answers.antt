@@ -11,10 +11,10 @@ Owed b r = record { answer : r ≡ sound b; facts : r ≡ true → Sound b }
 owed : (b : Block) (r : Bool) → r ≡ sound b → Owed b r
 owed b r e = record { answer = e; facts = λ t. sound_facts b (sym e ∙ t) }
 
-pub returns-then-cells-within : goal.returns-then-cells-within
+pub returns-then-cells_within : goal.returns-then-cells_within
 unfolding sound
-returns-then-cells-within c = owed (block c.args.cells.now c.args.accounts.now) _ (search rules)
+returns-then-cells_within c = owed (block c.args.cells.now c.args.accounts.now) _ (search rules)
 
-pub returns-else-cells-within : goal.returns-else-cells-within
+pub returns-else-cells_within : goal.returns-else-cells_within
 unfolding sound
-returns-else-cells-within c = owed (block c.args.cells.now c.args.accounts.now) _ (search rules)
+returns-else-cells_within c = owed (block c.args.cells.now c.args.accounts.now) _ (search rules)

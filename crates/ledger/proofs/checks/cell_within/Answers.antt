@@ -2,10 +2,10 @@ use Rattle.std.proofs.Common.{rules}
 use Rattle.ledger.specs.Limits.{cell_within}
 use Rattle.ledger.proofs.checks.cell_within.Goals as goal
 
-pub returns-then-volume-within : goal.returns-then-volume-within
+pub returns-then-volume_within : goal.returns-then-volume_within
 unfolding cell_within
-returns-then-volume-within c = search rules
+returns-then-volume_within c = search rules
 
-pub returns-else-volume-within : goal.returns-else-volume-within
+pub returns-else-volume_within : goal.returns-else-volume_within
 unfolding cell_within
-returns-else-volume-within c = search rules
+returns-else-volume_within c = search rules
