@@ -1,27 +1,24 @@
 -- The volume adjustments of one area: within limits, where the discrepancy is.
-use Rattle.std.proofs.Common.{◌≡◌, ℕ, zero, suc, ◌+◌, ◌-◌, ◌<◌, ◌≤◌, true, false, cond, eqb, List, map, length, get_or, ℤ, pos, negsuc, ◌+ℤ◌, ◌-ℤ◌, nat_abs, sym, refl, ap, ◌∙◌, add-one, arith, lit<}
+use Rattle.std.proofs.Common.{◌≡◌, ℕ, zero, suc, ◌+◌, ◌-◌, ◌<◌, ◌≤◌, true, false, cond, eqb, List, map, length, ℤ, pos, negsuc, ◌+ℤ◌, ◌-ℤ◌, nat_abs, sym, refl, ap, ◌∙◌, arith}
 use lib.Signed.{le_z}
 use Rattle.std.specs.List.{range_with_len}
 use Rattle.std.proofs.lemmas.List.FromFn.{length-map-range_with_len}
 use Rattle.std.proofs.lemmas.List.{length-map}
 use Rattle.std.proofs.lemmas.Int.{ints}
 use Rattle.std.proofs.lemmas.Bool.{and_from, le-leb}
-use Rattle.amounts.specs.Ranges.{accounts, areas, within}
-use Rattle.ledger.specs.Blocks.{cell_number, cell_at, zero_volume}
+use Rattle.amounts.specs.Ranges.{accounts}
+use Rattle.ledger.specs.Blocks.{cell_number, cell_at}
 use Rattle.ledger.specs.Limits.{SoundCells, max_kwh}
 use Rattle.ledger.specs.declared.block.Cell.{Cell}
-use Rattle.ledger.specs.declared.block.VolumeAdjustment.{VolumeAdjustment}
 use Rattle.sharing.specs.Limits.{figures_in_limit, weights_in_limit, max_amount, max_weight, max_lines}
 use Rattle.sharing.specs.Shares.{part, unshared, total_weight}
 use Rattle.sharing.proofs.Fairness.{fair}
 use Rattle.reconciling.specs.declared.sheets.AreaRow.{AreaRow}
-use Rattle.reconciling.specs.Laws.{SharedOverOperators, FairVolumes}
 use Rattle.reconciling.specs.Outcomes.{sums_in}
 use Rattle.reconciling.specs.Sharing.{that_count, over_operators}
-use Rattle.reconciling.specs.Sheets.{row_in_range, row_at}
-use Rattle.reconciling.specs.Volumes.{volume_weight, discrepancy, managers_kwh, operator_weights, adjusted_kwh, volume_kwh, volume_adjustment, volume_adjustments}
+use Rattle.reconciling.specs.Sheets.{row_in_range}
+use Rattle.reconciling.specs.Volumes.{volume_weight, discrepancy, managers_kwh, operator_weights, adjusted_kwh, volume_kwh}
 use Rattle.reconciling.proofs.Managers.{managers_le, rest_le}
-use Rattle.reconciling.proofs.Tables.{table_at}
 use Rattle.reconciling.proofs.Ranged.{sums_of_cell, modelled_kwh_le}
 
 weight_in_limit : (w : ℤ) → nat_abs w ≤ max_weight → le_z w (pos max_weight) ≡ true

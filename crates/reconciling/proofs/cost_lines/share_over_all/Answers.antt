@@ -23,34 +23,34 @@ room = length-replicate accounts (pos 0)
 called : (c : After-share) → c.share.result ≡ outcome c.args.amount c.args.weights.now (range_with_len 0 accounts) (length places)
 called c =
     let z : ℤ = to_z w64 (of_z w64 c.args.amount) in
-    let ws : List ℤ = map (λ (l : CostLine). l.pence) c.cost-lines-lines.result in
-    let cs : List ℕ = map (λ (l : CostLine). l.account) c.cost-lines-lines.result in
+    let ws : List ℤ = map (λ (l : CostLine). l.pence) c.cost_lines-lines.result in
+    let cs : List ℕ = map (λ (l : CostLine). l.account) c.cost_lines-lines.result in
     let answer : c.share.result ≡ outcome z ws cs (length places) = c.share.ensures.answer in
-    answer ∙ same_outcome c.args.amount z c.args.weights.now ws (range_with_len 0 accounts) cs (to_z-of_z w64 c.args.amount c.ranges.amount) c.cost-lines-lines.ensures.weights c.cost-lines-lines.ensures.accounts (length places)
+    answer ∙ same_outcome c.args.amount z c.args.weights.now ws (range_with_len 0 accounts) cs (to_z-of_z w64 c.args.amount c.ranges.amount) c.cost_lines-lines.ensures.weights c.cost_lines-lines.ensures.accounts (length places)
 
 afterwards : (c : After-share) → c.share.new.parts ≡ parts_after c.args.amount c.args.weights.now (range_with_len 0 accounts) places
 afterwards c =
     let z : ℤ = to_z w64 (of_z w64 c.args.amount) in
-    let ws : List ℤ = map (λ (l : CostLine). l.pence) c.cost-lines-lines.result in
-    let cs : List ℕ = map (λ (l : CostLine). l.account) c.cost-lines-lines.result in
+    let ws : List ℤ = map (λ (l : CostLine). l.pence) c.cost_lines-lines.result in
+    let cs : List ℕ = map (λ (l : CostLine). l.account) c.cost_lines-lines.result in
     let after : c.share.new.parts ≡ parts_after z ws cs places = c.share.ensures.after in
-    after ∙ same_after c.args.amount z c.args.weights.now ws (range_with_len 0 accounts) cs (to_z-of_z w64 c.args.amount c.ranges.amount) c.cost-lines-lines.ensures.weights c.cost-lines-lines.ensures.accounts places
+    after ∙ same_after c.args.amount z c.args.weights.now ws (range_with_len 0 accounts) cs (to_z-of_z w64 c.args.amount c.ranges.amount) c.cost_lines-lines.ensures.weights c.cost_lines-lines.ensures.accounts places
 
-pub returns-in-default : goal.returns-in-default
-returns-in-default c =
+pub returns-in_default : goal.returns-in_default
+returns-in_default c =
     let z = c.args.amount in
     let ws = c.args.weights.now in
-    let call = called (goal.at.returns-in-default c).After-share in
-    sym (cond-false (figures_in_limit z ws) _ None (all_refused z ws places c.told-weights room c.in-default.field-0 (sym c.in-default.is ∙ call)))
+    let call = called (goal.at.returns-in_default c).After-share in
+    sym (cond-false (figures_in_limit z ws) _ None (all_refused z ws places c.told-weights room c.in_default.field-0 (sym c.in_default.is ∙ call)))
 
-pub overflow-add-adjustments : goal.overflow-add-adjustments
-overflow-add-adjustments c =
+pub overflow_add-adjustments : goal.overflow_add-adjustments
+overflow_add-adjustments c =
     let z = c.args.amount in
     let ws = c.args.weights.now in
     let u = c.in-Ok.unshared in
     let qs = c.share.new.parts in
-    let call = sym c.in-Ok.is ∙ called (goal.at.overflow-add-adjustments c).After-share in
-    let after = afterwards (goal.at.overflow-add-adjustments c).After-share in
+    let call = sym c.in-Ok.is ∙ called (goal.at.overflow_add-adjustments c).After-share in
+    let after = afterwards (goal.at.overflow_add-adjustments c).After-share in
     read_fits (get_or qs 0 (pos 0)) u max_amount max_amount (first_within z ws places c.told-weights room u qs call after) (rest_within z ws places c.told-weights room u qs call after) (lit< tt)
 
 pub returns : goal.returns

@@ -35,49 +35,49 @@ module _ (b : Block) (costs : List ℕ) (energy : ℕ) where
   ends_adjusted : true ≡ sound b → cost_sheet_fault costs energy ≡ None → delivery_limit_fault b.cells costs ≡ None → energy_limit_fault b.cells energy ≡ None → Ok (cost_adjustments b.cells costs energy) ≡ cost_outcome b costs energy
   ends_adjusted p q r t = sym (by_checks true None None None (sym p) q r t)
 
-pub returns-then-not-block-is-sound : goal.returns-then-not-block-is-sound
-returns-then-not-block-is-sound c = record { answer = ends_at_block (block c.args.cells.now c.args.accounts.now) c.args.costs.now c.args.energy c.if-not-block-is-sound.ensures.answer; fair = tt }
+pub returns-then-not-block_is_sound : goal.returns-then-not-block_is_sound
+returns-then-not-block_is_sound c = record { answer = ends_at_block (block c.args.cells.now c.args.accounts.now) c.args.costs.now c.args.energy c.if-not-block_is_sound.ensures.answer; fair = tt }
 
-pub returns-in-err-check-cost-sheet : goal.returns-in-err-check-cost-sheet
-returns-in-err-check-cost-sheet c =
+pub returns-in_err-check_cost_sheet : goal.returns-in_err-check_cost_sheet
+returns-in_err-check_cost_sheet c =
     let b = block c.args.cells.now c.args.accounts.now in
     let costs = c.args.costs.now in
     let energy = c.args.energy in
-    let f = c.in-err-check-cost-sheet.field-0.0 in
-    let p = err_from_is_err_and c.from-residual.result c.from-residual.ensures.1 in
-    let bad = fault_if (cost_sheet_fault costs energy) tt f c.in-err-check-cost-sheet.ensures.answer in
+    let f = c.in_err-check_cost_sheet.field-0.0 in
+    let p = err_from_is_err_and c.from_residual.result c.from_residual.ensures.1 in
+    let bad = fault_if (cost_sheet_fault costs energy) tt f c.in_err-check_cost_sheet.ensures.answer in
     record {
-      answer = p.1 ∙ ap Err p.2 ∙ ends_at_sheet b costs energy c.if-not-block-is-sound.ensures.answer f bad;
-      fair = IfOk-from_err c.from-residual.result (FairCosts b.cells costs energy) c.from-residual.ensures.0;
+      answer = p.1 ∙ ap Err p.2 ∙ ends_at_sheet b costs energy c.if-not-block_is_sound.ensures.answer f bad;
+      fair = IfOk-from_err c.from_residual.result (FairCosts b.cells costs energy) c.from_residual.ensures.0;
     }
 
-pub returns-in-err-delivery : goal.returns-in-err-delivery
-returns-in-err-delivery c =
+pub returns-in_err-delivery : goal.returns-in_err-delivery
+returns-in_err-delivery c =
     let b = block c.args.cells.now c.args.accounts.now in
     let costs = c.args.costs.now in
     let energy = c.args.energy in
-    let f = c.in-err-delivery.field-0.0 in
-    let p = err_from_is_err_and c.from-residual-in-err-delivery.result c.from-residual-in-err-delivery.ensures.1 in
-    let sheet = no_fault_if (cost_sheet_fault costs energy) tt tt c.in-ok-check-cost-sheet.ensures.answer in
-    let bad = fault_if (delivery_limit_fault b.cells costs) (delivery_adjustments (sums_in b.cells) (volumes_in b.cells) costs) f c.in-err-delivery.ensures in
+    let f = c.in_err-delivery.field-0.0 in
+    let p = err_from_is_err_and c.from_residual-in_err-delivery.result c.from_residual-in_err-delivery.ensures.1 in
+    let sheet = no_fault_if (cost_sheet_fault costs energy) tt tt c.in_ok-check_cost_sheet.ensures.answer in
+    let bad = fault_if (delivery_limit_fault b.cells costs) (delivery_adjustments (sums_in b.cells) (volumes_in b.cells) costs) f c.in_err-delivery.ensures in
     record {
-      answer = p.1 ∙ ap Err p.2 ∙ ends_at_delivery b costs energy c.if-not-block-is-sound.ensures.answer sheet f bad;
-      fair = IfOk-from_err c.from-residual-in-err-delivery.result (FairCosts b.cells costs energy) c.from-residual-in-err-delivery.ensures.0;
+      answer = p.1 ∙ ap Err p.2 ∙ ends_at_delivery b costs energy c.if-not-block_is_sound.ensures.answer sheet f bad;
+      fair = IfOk-from_err c.from_residual-in_err-delivery.result (FairCosts b.cells costs energy) c.from_residual-in_err-delivery.ensures.0;
     }
 
-pub returns-in-err-energy : goal.returns-in-err-energy
-returns-in-err-energy c =
+pub returns-in_err-energy : goal.returns-in_err-energy
+returns-in_err-energy c =
     let b = block c.args.cells.now c.args.accounts.now in
     let costs = c.args.costs.now in
     let energy = c.args.energy in
-    let f = c.in-err-energy.field-0.0 in
-    let p = err_from_is_err_and c.from-residual-in-err-energy.result c.from-residual-in-err-energy.ensures.1 in
-    let sheet = no_fault_if (cost_sheet_fault costs energy) tt tt c.in-ok-check-cost-sheet.ensures.answer in
-    let delivery = no_fault_if (delivery_limit_fault b.cells costs) (delivery_adjustments (sums_in b.cells) (volumes_in b.cells) costs) c.in-ok-delivery.delivery c.in-ok-delivery.ensures in
-    let bad = fault_if (energy_limit_fault b.cells energy) (energy_adjustments (sums_in b.cells) (volumes_in b.cells) energy) f c.in-err-energy.ensures in
+    let f = c.in_err-energy.field-0.0 in
+    let p = err_from_is_err_and c.from_residual-in_err-energy.result c.from_residual-in_err-energy.ensures.1 in
+    let sheet = no_fault_if (cost_sheet_fault costs energy) tt tt c.in_ok-check_cost_sheet.ensures.answer in
+    let delivery = no_fault_if (delivery_limit_fault b.cells costs) (delivery_adjustments (sums_in b.cells) (volumes_in b.cells) costs) c.in_ok-delivery.delivery c.in_ok-delivery.ensures in
+    let bad = fault_if (energy_limit_fault b.cells energy) (energy_adjustments (sums_in b.cells) (volumes_in b.cells) energy) f c.in_err-energy.ensures in
     record {
-      answer = p.1 ∙ ap Err p.2 ∙ ends_at_energy b costs energy c.if-not-block-is-sound.ensures.answer sheet delivery f bad;
-      fair = IfOk-from_err c.from-residual-in-err-energy.result (FairCosts b.cells costs energy) c.from-residual-in-err-energy.ensures.0;
+      answer = p.1 ∙ ap Err p.2 ∙ ends_at_energy b costs energy c.if-not-block_is_sound.ensures.answer sheet delivery f bad;
+      fair = IfOk-from_err c.from_residual-in_err-energy.result (FairCosts b.cells costs energy) c.from_residual-in_err-energy.ensures.0;
     }
 
 -- the adjustments that are handed back
@@ -91,12 +91,12 @@ returns c =
     let energy = c.args.energy in
     let table = delivery_adjustments (sums_in b.cells) (volumes_in b.cells) costs in
     let parts = energy_adjustments (sums_in b.cells) (volumes_in b.cells) energy in
-    let sheet = no_fault_if (cost_sheet_fault costs energy) tt tt c.in-ok-check-cost-sheet.ensures.answer in
-    let delivery = no_fault_if (delivery_limit_fault b.cells costs) table c.in-ok-delivery.delivery c.in-ok-delivery.ensures in
-    let network = no_fault_if (energy_limit_fault b.cells energy) parts c.in-ok-energy.energy c.in-ok-energy.ensures in
-    let same : both c.in-ok-delivery.delivery c.in-ok-energy.energy ≡ cost_adjustments b.cells costs energy =
-    ap₂ both (value_if (delivery_limit_fault b.cells costs) table c.in-ok-delivery.delivery c.in-ok-delivery.ensures) (value_if (energy_limit_fault b.cells energy) parts c.in-ok-energy.energy c.in-ok-energy.ensures) in
+    let sheet = no_fault_if (cost_sheet_fault costs energy) tt tt c.in_ok-check_cost_sheet.ensures.answer in
+    let delivery = no_fault_if (delivery_limit_fault b.cells costs) table c.in_ok-delivery.delivery c.in_ok-delivery.ensures in
+    let network = no_fault_if (energy_limit_fault b.cells energy) parts c.in_ok-energy.energy c.in_ok-energy.ensures in
+    let same : both c.in_ok-delivery.delivery c.in_ok-energy.energy ≡ cost_adjustments b.cells costs energy =
+    ap₂ both (value_if (delivery_limit_fault b.cells costs) table c.in_ok-delivery.delivery c.in_ok-delivery.ensures) (value_if (energy_limit_fault b.cells energy) parts c.in_ok-energy.energy c.in_ok-energy.ensures) in
     record {
-      answer = ap Ok same ∙ ends_adjusted b costs energy c.if-not-block-is-sound.ensures.answer sheet delivery network;
+      answer = ap Ok same ∙ ends_adjusted b costs energy c.if-not-block_is_sound.ensures.answer sheet delivery network;
       fair = subst (FairCosts b.cells costs energy) (sym same) (fair_costs b.cells costs energy);
     }

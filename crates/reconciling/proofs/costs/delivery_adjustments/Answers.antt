@@ -28,25 +28,25 @@ as_many c =
     ap length (found c).1
     ∙ length-map-range_with_len (λ a. delivery_adjustment (sums_in c.args.cells.now) (volumes_in c.args.cells.now) c.args.costs.now a c.loop-area.area) 0 accounts
 
-pub area-delivery-requires : goal.area-delivery-requires
-area-delivery-requires c = record { cells = c.requires.cells; costs = c.requires.costs; area = omega (arith, c.requires.costs.count) }
+pub area_delivery-requires : goal.area_delivery-requires
+area_delivery-requires c = record { cells = c.requires.cells; costs = c.requires.costs; area = omega (arith, c.requires.costs.count) }
 
 pub loop-area-init : goal.loop-area-init
 unfolding lowest
 loop-area-init c = (refl, columns_none (delivery_adjustment (sums_in c.args.cells.now) (volumes_in c.args.cells.now) c.args.costs.now) (pos 0) (pos 0))
 
-pub returns-in-default : goal.returns-in-default
+pub returns-in_default : goal.returns-in_default
 unfolding delivery_limit_fault
-returns-in-default c =
+returns-in_default c =
     let cells = c.args.cells.now in
     let costs = c.args.costs.now in
-    let bad = none_if (delivery_in_limit cells costs c.loop-area.area) _ c.in-default.ensures in
+    let bad = none_if (delivery_in_limit cells costs c.loop-area.area) _ c.in_default.ensures in
     sym (ap (λ o. unless_fault o (delivery_adjustments (sums_in cells) (volumes_in cells) costs))
     (area_fails (delivery_in_limit cells costs) (λ area. fault.AreaBeyondLimits area) c.loop-area.area c.loop-area.invariant.0 bad (omega (arith, c.requires.costs.count))))
 
-pub write-column-requires : goal.write-column-requires
-write-column-requires c =
-    let d = (goal.at.write-column-requires c).In-Some in
+pub write_column-requires : goal.write_column-requires
+write_column-requires c =
+    let d = (goal.at.write_column-requires c).In-Some in
     record { table = c.loop-area.invariant.1.count; area = in_sheet d; column = as_many d }
 
 pub loop-area-preserved : goal.loop-area-preserved
@@ -55,8 +55,8 @@ loop-area-preserved c =
     let cells = c.args.cells.now in
     let costs = c.args.costs.now in (
       all_pass_more (delivery_in_limit cells costs) c.loop-area.area c.loop-area.invariant.0 (found d).0,
-      columns_more (delivery_adjustment (sums_in cells) (volumes_in cells) costs) (pos 0) c.loop-area.adjustments c.write-column.new.table c.in-Some.column c.loop-area.area
-          c.loop-area.invariant.1 (in_sheet d) c.write-column.ensures.count c.write-column.ensures.written c.write-column.ensures.kept (entry d),
+      columns_more (delivery_adjustment (sums_in cells) (volumes_in cells) costs) (pos 0) c.loop-area.adjustments c.write_column.new.table c.in-Some.column c.loop-area.area
+          c.loop-area.invariant.1 (in_sheet d) c.write_column.ensures.count c.write_column.ensures.written c.write_column.ensures.kept (entry d),
     )
 
 pub returns : goal.returns

@@ -19,16 +19,16 @@ unfolding lowest
 loop-area-init c = refl
 
 pub loop-area-preserved : goal.loop-area-preserved
-loop-area-preserved c = all_pass_more (λ area. row_in_range (row_at c.args.sheet.now area)) c.loop-area.area c.loop-area.invariant (sym c.if-not-row-in-range.ensures)
+loop-area-preserved c = all_pass_more (λ area. row_in_range (row_at c.args.sheet.now area)) c.loop-area.area c.loop-area.invariant (sym c.if-not-row_in_range.ensures)
 
-pub returns-then-not-row-in-range : goal.returns-then-not-row-in-range
+pub returns-then-not-row_in_range : goal.returns-then-not-row_in_range
 unfolding area_sheet_fault
-returns-then-not-row-in-range c =
+returns-then-not-row_in_range c =
     let test = λ (area : ℕ). row_in_range (row_at c.args.sheet.now area) in
     let e = eq-eqb (length c.args.sheet.now) areas c.if-sheet.false in
     record {
       answer = sym (ap (λ o. unless_fault o tt) (passed _ fault.SheetLength (lowest_area test (λ area. fault.AreaFigure area)) e
-          ∙ area_fails test (λ area. fault.AreaFigure area) c.loop-area.area c.loop-area.invariant (sym c.if-not-row-in-range.ensures) (omega arith)));
+          ∙ area_fails test (λ area. fault.AreaFigure area) c.loop-area.area c.loop-area.invariant (sym c.if-not-row_in_range.ensures) (omega arith)));
       ranged = tt;
     }
 

@@ -37,33 +37,33 @@ unfolding lowest
 loop-area-init c = refl
 
 pub loop-area-preserved : goal.loop-area-preserved
-loop-area-preserved c = all_pass_more (in_range c.args.costs.now c.args.energy) c.loop-area.area c.loop-area.invariant (sym c.if-not-cost-in-range.ensures)
+loop-area-preserved c = all_pass_more (in_range c.args.costs.now c.args.energy) c.loop-area.area c.loop-area.invariant (sym c.if-not-cost_in_range.ensures)
 
-pub returns-then-not-cost-in-range : goal.returns-then-not-cost-in-range
-returns-then-not-cost-in-range c =
-    let fails = area_out c.args.costs.now c.args.energy c.if-costs.false c.loop-area.area c.loop-area.invariant (sym c.if-not-cost-in-range.ensures) (omega arith) in
+pub returns-then-not-cost_in_range : goal.returns-then-not-cost_in_range
+returns-then-not-cost_in_range c =
+    let fails = area_out c.args.costs.now c.args.energy c.if-costs.false c.loop-area.area c.loop-area.invariant (sym c.if-not-cost_in_range.ensures) (omega arith) in
     record { answer = sym (ap (λ o. unless_fault o tt) fails); delivery = tt; energy = tt }
 
-pub returns-then-cost-in-range : goal.returns-then-cost-in-range
-returns-then-cost-in-range c =
+pub returns-then-cost_in_range : goal.returns-then-cost_in_range
+returns-then-cost_in_range c =
     let costs = c.args.costs.now in
     let energy = c.args.energy in
     let end : c.loop-area.area ≡ areas = omega arith in
     let all = subst (AllPass (in_range costs energy)) end c.loop-area.invariant in
-    let good = sym c.if-cost-in-range.ensures in
+    let good = sym c.if-cost_in_range.ensures in
     record {
       answer = sym (ap (λ o. unless_fault o tt) (after_areas costs energy c.if-costs.false all ∙ ap (λ b. fault_unless b fault.EnergyFigure) good));
       delivery = record { count = c.if-costs.false; ranged = λ area l. each_passes (in_range costs energy) areas area all l };
       energy = good;
     }
 
-pub returns-else-cost-in-range : goal.returns-else-cost-in-range
-returns-else-cost-in-range c =
+pub returns-else-cost_in_range : goal.returns-else-cost_in_range
+returns-else-cost_in_range c =
     let costs = c.args.costs.now in
     let energy = c.args.energy in
     let end : c.loop-area.area ≡ areas = omega arith in
     let all = subst (AllPass (in_range costs energy)) end c.loop-area.invariant in
-    let bad = sym c.if-cost-in-range.ensures in
+    let bad = sym c.if-cost_in_range.ensures in
     record {
       answer = sym (ap (λ o. unless_fault o tt) (after_areas costs energy c.if-costs.false all ∙ ap (λ b. fault_unless b fault.EnergyFigure) bad));
       delivery = tt;

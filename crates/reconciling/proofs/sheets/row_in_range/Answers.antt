@@ -2,10 +2,10 @@ use Rattle.std.proofs.Common.{rules}
 use Rattle.reconciling.specs.Sheets.{row_in_range}
 use Rattle.reconciling.proofs.sheets.row_in_range.Goals as goal
 
-pub returns-then-price-in-range : goal.returns-then-price-in-range
+pub returns-then-price_in_range : goal.returns-then-price_in_range
 unfolding row_in_range
-returns-then-price-in-range c = search rules
+returns-then-price_in_range c = search rules
 
-pub returns-else-price-in-range : goal.returns-else-price-in-range
+pub returns-else-price_in_range : goal.returns-else-price_in_range
 unfolding row_in_range
-returns-else-price-in-range c = search rules
+returns-else-price_in_range c = search rules

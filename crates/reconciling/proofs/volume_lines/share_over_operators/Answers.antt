@@ -25,21 +25,21 @@ places = replicate 63 (pos 0)
 abbrev operators : List ℕ
 operators = range_with_len 1 63
 
-pub returns-in-default : goal.returns-in-default
-returns-in-default c =
+pub returns-in_default : goal.returns-in_default
+returns-in_default c =
     let ws = weights c.args.cells.now c.args.area in
     let many = as_many_weights c.args.cells.now c.args.area in
-    let shared = c.volume-lines-lines.ensures in
+    let shared = c.volume_lines-lines.ensures in
     let asked = ap (λ z. outcome z ws operators 63) (to_z-of_z w64 c.args.amount c.ranges.amount) in
-    let told = c.in-default.ensures.answer ∙ ap₂ (λ w k. outcome (to_z w64 (of_z w64 c.args.amount)) w k 63) shared.weights shared.accounts ∙ asked in
-    sym (cond-false (figures_in_limit c.args.amount ws) _ None (refused_if c.args.amount ws operators places refl (omega (arith, many)) c.in-default.field-0 told))
+    let told = c.in_default.ensures.answer ∙ ap₂ (λ w k. outcome (to_z w64 (of_z w64 c.args.amount)) w k 63) shared.weights shared.accounts ∙ asked in
+    sym (cond-false (figures_in_limit c.args.amount ws) _ None (refused_if c.args.amount ws operators places refl (omega (arith, many)) c.in_default.field-0 told))
 
 -- what the sharing accepted
 accepted : (c : goal.In-Ok) → (figures_in_limit c.args.amount (weights c.args.cells.now c.args.area) ≡ true) × (c.in-Ok.unshared ≡ unshared c.args.amount (that_count (weights c.args.cells.now c.args.area)))
 accepted c =
     let ws = weights c.args.cells.now c.args.area in
     let many = as_many_weights c.args.cells.now c.args.area in
-    let shared = c.volume-lines-lines.ensures in
+    let shared = c.volume_lines-lines.ensures in
     let asked = ap (λ z. outcome z ws operators 63) (to_z-of_z w64 c.args.amount c.ranges.amount) in
     let told = c.in-Ok.ensures.answer ∙ ap₂ (λ w k. outcome (to_z w64 (of_z w64 c.args.amount)) w k 63) shared.weights shared.accounts ∙ asked in
     shared_if c.args.amount ws operators places refl (omega (arith, many)) c.in-Ok.unshared told
@@ -49,15 +49,15 @@ unshared_small c =
     let ws = weights c.args.cells.now c.args.area in
     omega (arith, ap nat_abs (accepted c).1, unshared_le c.args.amount (that_count ws), (figures_parts c.args.amount ws (accepted c).0).0)
 
-pub overflow-add-adjustments : goal.overflow-add-adjustments
-overflow-add-adjustments c = let small = unshared_small c in let before = c.requires.before in omega (arith, ints)
+pub overflow_add-adjustments : goal.overflow_add-adjustments
+overflow_add-adjustments c = let small = unshared_small c in let before = c.requires.before in omega (arith, ints)
 
 pub returns : goal.returns
 returns c =
     let z = c.args.amount in
     let ws = weights c.args.cells.now c.args.area in
     let many = as_many_weights c.args.cells.now c.args.area in
-    let shared = c.volume-lines-lines.ensures in
+    let shared = c.volume_lines-lines.ensures in
     let good = accepted c in
     let small = unshared_small c in
     let before = c.requires.before in

@@ -27,7 +27,7 @@ loop-i-preserved c =
     let wh = (sums_in cells (i + 1) c.args.area).modelled in
     let small = modelled_wh_le (sums_in cells (i + 1) c.args.area) (sums_of_cell (cell_at cells (i + 1) c.args.area) (c.requires.cells.within (cell_number (i + 1) c.args.area))) in
     let fits : SFits w64 wh = omega (arith, ints, small) in
-    let kwh = to_z-of_z w64 c.kwh-of.result (record { sfits = c.kwh-of.type_inv }) ∙ c.kwh-of.ensures.answer ∙ ap kwh_of (to_z-of_z w64 wh fits) in
+    let kwh = to_z-of_z w64 c.kwh_of.result (record { sfits = c.kwh_of.type_inv }) ∙ c.kwh_of.ensures.answer ∙ ap kwh_of (to_z-of_z w64 wh fits) in
     filled_more 63 (line cells c.args.area) no_line c.loop-i.lines i _ c.loop-i.invariant c.loop-i-test.true (λ j. record { account = i + 1; kwh = kwh j })
 
 pub returns : goal.returns

@@ -13,10 +13,10 @@ returns c =
     let s = c.args.sums in
     let f : SFits w64 s.metered = search rules in
     let g : SFits w64 s.modelled = search rules in
-    let metered = c.kwh-of.ensures.answer ∙ ap kwh_of (to_z-of_z w64 s.metered f) in
-    let modelled = c.kwh-of-2.ensures.answer ∙ ap kwh_of (to_z-of_z w64 s.modelled g) in
+    let metered = c.kwh_of.ensures.answer ∙ ap kwh_of (to_z-of_z w64 s.metered f) in
+    let modelled = c.kwh_of-2.ensures.answer ∙ ap kwh_of (to_z-of_z w64 s.modelled g) in
     let x = metered_kwh_le s c.requires in
     let y = modelled_kwh_le s c.requires in
-    let value = ap₂ (λ a b. to_z w64 (of_z w64 (a +ℤ to_z w64 (of_z w64 b)))) (to_z-of_z w64 c.kwh-of.result (record { sfits = c.kwh-of.type_inv }) ∙ metered) modelled
+    let value = ap₂ (λ a b. to_z w64 (of_z w64 (a +ℤ to_z w64 (of_z w64 b)))) (to_z-of_z w64 c.kwh_of.result (record { sfits = c.kwh_of.type_inv }) ∙ metered) modelled
     ∙ add_is (kwh_of s.metered) (kwh_of s.modelled) max_kwh max_kwh x y (lit< tt) in
     record { answer = value; bound = omega (arith, ap nat_abs value, add_le (kwh_of s.metered) (kwh_of s.modelled) max_kwh max_kwh x y (lit< tt)) }

@@ -9,8 +9,8 @@ use Rattle.reconciling.proofs.Managers.{managers_le}
 use Rattle.reconciling.proofs.Ranged.{row_ranged}
 use Rattle.reconciling.proofs.volumes.managers_kwh.Goals as goal
 
-pub overflow-mul-discrepancy : goal.overflow-mul-discrepancy
-overflow-mul-discrepancy c = machine_fits c.args.discrepancy c.args.row.share max_kwh whole c.ranges.discrepancy c.requires.discrepancy (row_ranged c.args.row c.requires.row).share (lit< tt) (lit< tt)
+pub overflow_mul-discrepancy : goal.overflow_mul-discrepancy
+overflow_mul-discrepancy c = machine_fits c.args.discrepancy c.args.row.share max_kwh whole c.ranges.discrepancy c.requires.discrepancy (row_ranged c.args.row c.requires.row).share (lit< tt) (lit< tt)
 
 pub returns : goal.returns
 unfolding managers_kwh
@@ -20,5 +20,5 @@ returns c =
     let small = (row_ranged c.args.row c.requires.row).share in
     let product = ap (λ x. to_z w64 (of_z w64 x)) (machine_product d s c.ranges.discrepancy (omega (arith, small)))
     ∙ to_z-of_z w64 (d *ℤ pos s) (product_fits d s max_kwh whole c.requires.discrepancy small (lit< tt)) in
-    let value = to_z-of_z w64 c.whole-kwh.result (record { sfits = c.whole-kwh.type_inv }) ∙ c.whole-kwh.ensures ∙ ap (λ x. quotient_cut x whole) product in
+    let value = to_z-of_z w64 c.whole_kwh.result (record { sfits = c.whole_kwh.type_inv }) ∙ c.whole_kwh.ensures ∙ ap (λ x. quotient_cut x whole) product in
     record { answer = value; bound = omega (arith, ap nat_abs value, managers_le d c.args.row c.requires.row, c.requires.discrepancy) }

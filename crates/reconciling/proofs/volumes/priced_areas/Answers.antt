@@ -42,41 +42,41 @@ pub loop-area-init : goal.loop-area-init
 unfolding lowest
 loop-area-init c = (refl, columns_none (volume_adjustment (sums_in c.args.cells.now) c.args.sheet.now) zero_volume zero_volume)
 
-pub returns-in-default : goal.returns-in-default
+pub returns-in_default : goal.returns-in_default
 unfolding volume_limit_fault discrepancy_in_limit
-returns-in-default c =
-    let bad = none_if (within (discrepancy (sums_in c.args.cells.now) (row_at c.args.sheet.now c.loop-area.area) c.loop-area.area) max_kwh) _ c.in-default.ensures in
+returns-in_default c =
+    let bad = none_if (within (discrepancy (sums_in c.args.cells.now) (row_at c.args.sheet.now c.loop-area.area) c.loop-area.area) max_kwh) _ c.in_default.ensures in
     sym (ap (λ o. unless_fault o (volume_adjustments (sums_in c.args.cells.now) c.args.sheet.now))
     (area_fails (discrepancy_in_limit c.args.cells.now c.args.sheet.now) (λ area. fault.AreaBeyondLimits area) c.loop-area.area c.loop-area.invariant.0 bad (omega (arith, c.requires.sheet.count))))
 
-pub slice-bounds-write-column-end : goal.slice-bounds-write-column-end
-slice-bounds-write-column-end c = search rules
+pub slice_bounds-write_column-end : goal.slice_bounds-write_column-end
+slice_bounds-write_column-end c = search rules
 
-pub price-adjustments-requires : goal.price-adjustments-requires
-price-adjustments-requires c =
-    let d = (goal.at.price-adjustments-requires c).In-Some in
+pub price_adjustments-requires : goal.price_adjustments-requires
+price_adjustments-requires c =
+    let d = (goal.at.price_adjustments-requires c).In-Some in
     record {
       kwh = λ account l. omega (arith, ap nat_abs (kwh_at d account l), volume_kwh_le c.args.cells.now (row_at c.args.sheet.now c.loop-area.area) c.loop-area.area (ranged d) (leb-true _ _ (found d).0) account l);
       row = ranged d;
     }
 
-pub write-column-requires : goal.write-column-requires
-write-column-requires c =
-    let d = (goal.at.write-column-requires c).In-Some in
-    record { table = c.loop-area.invariant.1.count; area = in_sheet d; column = ap length c.price-adjustments.ensures ∙ length-map c.in-Some.kwh _ ∙ as_many d }
+pub write_column-requires : goal.write_column-requires
+write_column-requires c =
+    let d = (goal.at.write_column-requires c).In-Some in
+    record { table = c.loop-area.invariant.1.count; area = in_sheet d; column = ap length c.price_adjustments.ensures ∙ length-map c.in-Some.kwh _ ∙ as_many d }
 
 pub loop-area-preserved : goal.loop-area-preserved
 unfolding discrepancy_in_limit volume_adjustment
 loop-area-preserved c =
     let d = (goal.at.loop-area-preserved c).In-Some in
     let row = row_at c.args.sheet.now c.loop-area.area in
-    let entry : (account : ℕ) → account < accounts → get_or c.price-adjustments.result account zero_volume ≡ volume_adjustment (sums_in c.args.cells.now) c.args.sheet.now account c.loop-area.area = λ account l.
-    ap (λ k. get_or k account zero_volume) c.price-adjustments.ensures
+    let entry : (account : ℕ) → account < accounts → get_or c.price_adjustments.result account zero_volume ≡ volume_adjustment (sums_in c.args.cells.now) c.args.sheet.now account c.loop-area.area = λ account l.
+    ap (λ k. get_or k account zero_volume) c.price_adjustments.ensures
     ∙ get_or-map (λ k. priced_adjustment k row) c.in-Some.kwh account (pos 0) zero_volume (omega (arith, as_many d))
     ∙ ap (λ k. priced_adjustment k row) (kwh_at d account l) in (
       all_pass_more (discrepancy_in_limit c.args.cells.now c.args.sheet.now) c.loop-area.area c.loop-area.invariant.0 (found d).0,
-      columns_more (volume_adjustment (sums_in c.args.cells.now) c.args.sheet.now) zero_volume c.loop-area.adjustments c.write-column.new.table c.price-adjustments.result c.loop-area.area
-          c.loop-area.invariant.1 (in_sheet d) c.write-column.ensures.count c.write-column.ensures.written c.write-column.ensures.kept entry,
+      columns_more (volume_adjustment (sums_in c.args.cells.now) c.args.sheet.now) zero_volume c.loop-area.adjustments c.write_column.new.table c.price_adjustments.result c.loop-area.area
+          c.loop-area.invariant.1 (in_sheet d) c.write_column.ensures.count c.write_column.ensures.written c.write_column.ensures.kept entry,
     )
 
 pub returns : goal.returns

@@ -28,26 +28,26 @@ module _ (b : Block) (sheet : List AreaRow) where
   after_sheet : true ≡ sound b → area_sheet_fault sheet ≡ None → volume_outcome b sheet ≡ unless_fault (volume_limit_fault b.cells sheet) (volume_adjustments (sums_in b.cells) sheet)
   after_sheet e h = after_block e ∙ ap (λ o. unless_fault (or_then o (volume_limit_fault b.cells sheet)) (volume_adjustments (sums_in b.cells) sheet)) h
 
-pub returns-then-not-block-is-sound : goal.returns-then-not-block-is-sound
-returns-then-not-block-is-sound c = record { answer = block_fails (block c.args.cells.now c.args.accounts.now) c.args.sheet.now c.if-not-block-is-sound.ensures.answer; fair = tt }
+pub returns-then-not-block_is_sound : goal.returns-then-not-block_is_sound
+returns-then-not-block_is_sound c = record { answer = block_fails (block c.args.cells.now c.args.accounts.now) c.args.sheet.now c.if-not-block_is_sound.ensures.answer; fair = tt }
 
-pub returns-in-err-check-area-sheet : goal.returns-in-err-check-area-sheet
-returns-in-err-check-area-sheet c =
+pub returns-in_err-check_area_sheet : goal.returns-in_err-check_area_sheet
+returns-in_err-check_area_sheet c =
     let b = block c.args.cells.now c.args.accounts.now in
     let sheet = c.args.sheet.now in
-    let p = err_from_is_err_and c.from-residual.result c.from-residual.ensures.1 in
-    let bad = fault_if (area_sheet_fault sheet) tt c.in-err-check-area-sheet.field-0.0 c.in-err-check-area-sheet.ensures.answer in
+    let p = err_from_is_err_and c.from_residual.result c.from_residual.ensures.1 in
+    let bad = fault_if (area_sheet_fault sheet) tt c.in_err-check_area_sheet.field-0.0 c.in_err-check_area_sheet.ensures.answer in
     record {
-      answer = p.1 ∙ ap Err p.2 ∙ sheet_fails b sheet c.if-not-block-is-sound.ensures.answer c.in-err-check-area-sheet.field-0.0 bad;
-      fair = IfOk-from_err c.from-residual.result (FairVolumes b.cells sheet) c.from-residual.ensures.0;
+      answer = p.1 ∙ ap Err p.2 ∙ sheet_fails b sheet c.if-not-block_is_sound.ensures.answer c.in_err-check_area_sheet.field-0.0 bad;
+      fair = IfOk-from_err c.from_residual.result (FairVolumes b.cells sheet) c.from_residual.ensures.0;
     }
 
 pub returns : goal.returns
 returns c =
     let b = block c.args.cells.now c.args.accounts.now in
     let sheet = c.args.sheet.now in
-    let good = no_fault_if (area_sheet_fault sheet) tt tt c.in-ok-check-area-sheet.ensures.answer in
+    let good = no_fault_if (area_sheet_fault sheet) tt tt c.in_ok-check_area_sheet.ensures.answer in
     record {
-      answer = c.priced-areas.ensures ∙ sym (after_sheet b sheet c.if-not-block-is-sound.ensures.answer good);
-      fair = subst (λ r. IfOk r (FairVolumes b.cells sheet)) (sym c.priced-areas.ensures) (made_unless (volume_limit_fault b.cells sheet) (volume_adjustments (sums_in b.cells) sheet) (FairVolumes b.cells sheet) (fair_volumes b.cells sheet));
+      answer = c.priced_areas.ensures ∙ sym (after_sheet b sheet c.if-not-block_is_sound.ensures.answer good);
+      fair = subst (λ r. IfOk r (FairVolumes b.cells sheet)) (sym c.priced_areas.ensures) (made_unless (volume_limit_fault b.cells sheet) (volume_adjustments (sums_in b.cells) sheet) (FairVolumes b.cells sheet) (fair_volumes b.cells sheet));
     }
