@@ -1,5 +1,5 @@
 -- A post goes forward, since billing does.
-use Rattle.std.proofs.Common.{◌≡◌, ℕ, List, length, Ok, Err, Result, sym, subst}
+use Rattle.std.proofs.Common.{ℕ, List, length, Ok, Err, Result, sym, subst}
 use Rattle.std.proofs.lemmas.Bool.{cond_both}
 use Rattle.billing.specs.Bills.{Sources, bill_at}
 use Rattle.billing.specs.Laws.{GoesForward}

@@ -1,5 +1,5 @@
 -- How a reconciliation of a block ends, and that what it sets is shared fairly.
-use Rattle.std.proofs.Common.{◌≡◌, ℕ, ◌/◌, ◌%◌, ◌<◌, Bool, true, false, cond, List, get_or, ℤ, pos, IfOk, Some, None, Ok, Err, Option, Result, sym, refl, ap, ◌∙◌, subst, ap₂, arith}
+use Rattle.std.proofs.Common.{◌≡◌, ℕ, ◌<◌, Bool, true, false, List, get_or, pos, IfOk, Ok, Err, Option, Result, sym, refl, ap, ◌∙◌, subst, ap₂, arith}
 use Rattle.std.proofs.lemmas.List.FromFn.{get_or-map-range_with_len}
 use Rattle.amounts.specs.Ranges.{accounts, areas}
 use Rattle.ledger.specs.Blocks.{Block, block, cell_count, cell_number, cell_at, account_at, zero_cell, zero_volume, zero_account}

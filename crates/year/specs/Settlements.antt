@@ -1,10 +1,10 @@
 -- What the year promises once its cost reconciliation is accepted.
-use Rattle.std.specs.Prelude.{◌≡◌, ℕ, ◌<◌, List, length, ℤ, pos, ◌+ℤ◌, Result, OnOk}
+use Rattle.std.specs.Prelude.{◌≡◌, ℕ, ◌<◌, List, ℤ, pos, ◌+ℤ◌, Result, OnOk}
 use Rattle.amounts.specs.Ranges.{accounts, areas}
 use Rattle.amounts.specs.Sums.{int_sum_to}
 use Rattle.billing.specs.Bills.{Sources}
 use Rattle.billing.specs.Laws.{Alike}
-use Rattle.ledger.specs.Blocks.{Block, cell_count, cell_at, account_at}
+use Rattle.ledger.specs.Blocks.{Block, cell_at, account_at}
 use Rattle.ledger.specs.Units.{kwh_of, pence_of}
 use Rattle.ledger.specs.declared.block.Sums.{Sums}
 use Rattle.ledger.specs.declared.block.VolumeAdjustment.{VolumeAdjustment}

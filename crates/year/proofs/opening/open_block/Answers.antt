@@ -1,4 +1,4 @@
-use Rattle.std.proofs.Common.{◌≡◌, cond, length, replicate, sym, ap, ◌∙◌, ap₂}
+use Rattle.std.proofs.Common.{length, replicate, sym, ap, ◌∙◌, ap₂}
 use Rattle.amounts.specs.Ranges.{accounts}
 use Rattle.ledger.specs.Blocks.{block, cleared, cell_count, zero_cell, zero_account}
 use Rattle.ledger.specs.Limits.{counts_right}
@@ -9,7 +9,7 @@ pub returns : goal.returns
 unfolding cleared counts_right
 returns c =
     let b = block c.args.cells.now c.args.accounts.now in
-    let right = sym c.if-not-counts-are-right.ensures in
+    let right = sym c.if-not-counts_are_right.ensures in
     let cells = c.clear.ensures.cells ∙ ap (λ n. replicate n zero_cell) (eqb-true (length c.args.cells.now) cell_count (and_parts _ _ right).0) in
     let records = c.clear.ensures.accounts ∙ ap (λ n. replicate n zero_account) (eqb-true (length c.args.accounts.now) accounts (and_parts _ _ right).1) in
     record {

@@ -1,4 +1,4 @@
-use Rattle.std.proofs.Common.{◌≡◌, Bool, cond, Ok, Err, sym, ap, ◌∙◌}
+use Rattle.std.proofs.Common.{cond, Err, sym, ap, ◌∙◌}
 use Rattle.year.specs.Outcomes.{with_bill}
 use Rattle.std.proofs.lemmas.Result.{err_from_is_err_and}
 use Rattle.billing.specs.Bills.{sources, bill_at}
@@ -9,30 +9,30 @@ use Rattle.year.proofs.Bills.{bill_in_range}
 use Rattle.year.proofs.PostEnds.{refused_by, accepted_by, fits, not_billed, not_entered, entered}
 use Rattle.year.proofs.posting.post_checked.Goals as goal
 
-pub returns-in-err-bill : goal.returns-in-err-bill
-returns-in-err-bill g c =
+pub returns-in_err-bill : goal.returns-in_err-bill
+returns-in_err-bill g c =
     let m = sources (contents c.args.categories.now) (contents c.args.losses.now) (g.T.TariffBook.prices c.args.tariff.now) (g.I.InfillBook.values c.args.infill.now) in
     let o = bill_at m c.args.batch.now c.args.place in
-    let p = err_from_is_err_and c.from-residual.result c.from-residual.ensures.1 in
-    let e = not_billed c.args.cells.now c.args.place o c.in-err-bill.field-0.0 c.in-err-bill.ensures.answer in
+    let p = err_from_is_err_and c.from_residual.result c.from_residual.ensures.1 in
+    let e = not_billed c.args.cells.now c.args.place o c.in_err-bill.field-0.0 c.in_err-bill.ensures.answer in
     record { answer = p.1 ∙ ap Err p.2 ∙ e.0; after = e.1 }
 
 pub enter-requires : goal.enter-requires
 enter-requires g c =
     let m = sources (contents c.args.categories.now) (contents c.args.losses.now) (g.T.TariffBook.prices c.args.tariff.now) (g.I.InfillBook.values c.args.infill.now) in
-    let r = bill_in_range m c.args.batch.now c.args.place c.in-ok-bill.bill (sym c.in-ok-bill.ensures.answer) in
+    let r = bill_in_range m c.args.batch.now c.args.place c.in_ok-bill.bill (sym c.in_ok-bill.ensures.answer) in
     record { count = c.requires; account = r.account; area = r.area }
 
-pub returns-in-err-enter : goal.returns-in-err-enter
-returns-in-err-enter g c =
+pub returns-in_err-enter : goal.returns-in_err-enter
+returns-in_err-enter g c =
     let m = sources (contents c.args.categories.now) (contents c.args.losses.now) (g.T.TariffBook.prices c.args.tariff.now) (g.I.InfillBook.values c.args.infill.now) in
     let o = bill_at m c.args.batch.now c.args.place in
     let cells = c.args.cells.now in
-    let bill = c.in-ok-bill.bill in
-    let is = c.in-ok-bill.ensures.answer in
-    let p = err_from_is_err_and c.from-residual-in-err-enter.result c.from-residual-in-err-enter.ensures.1 in
+    let bill = c.in_ok-bill.bill in
+    let is = c.in_ok-bill.ensures.answer in
+    let p = err_from_is_err_and c.from_residual-in_err-enter.result c.from_residual-in_err-enter.ensures.1 in
     let t = fits cells c.args.place o bill is in
-    let h = refused_by t (ledger.SumBeyondLimit c.args.place bill.next) c.in-err-enter.field-0.0 c.in-err-enter.ensures.answer in
+    let h = refused_by t (ledger.SumBeyondLimit c.args.place bill.next) c.in_err-enter.field-0.0 c.in_err-enter.ensures.answer in
     let e = not_entered cells c.args.place o bill is h.0 in
     record {
       answer = p.1 ∙ ap Err p.2 ∙ ap (λ f. Err (post.Ledger f)) h.1 ∙ e.0;
@@ -44,9 +44,9 @@ returns g c =
     let m = sources (contents c.args.categories.now) (contents c.args.losses.now) (g.T.TariffBook.prices c.args.tariff.now) (g.I.InfillBook.values c.args.infill.now) in
     let o = bill_at m c.args.batch.now c.args.place in
     let cells = c.args.cells.now in
-    let bill = c.in-ok-bill.bill in
-    let is = c.in-ok-bill.ensures.answer in
+    let bill = c.in_ok-bill.bill in
+    let is = c.in_ok-bill.ensures.answer in
     let t = fits cells c.args.place o bill is in
-    let h = accepted_by t (ledger.SumBeyondLimit c.args.place bill.next) c.in-ok-enter.field-0 c.in-ok-enter.ensures.answer in
+    let h = accepted_by t (ledger.SumBeyondLimit c.args.place bill.next) c.in_ok-enter.field-0 c.in_ok-enter.ensures.answer in
     let e = entered cells c.args.place o bill is h in
     record { answer = e.0; after = c.enter.ensures.after ∙ ap (λ b. cond b (with_bill cells bill) cells) h ∙ e.1 }

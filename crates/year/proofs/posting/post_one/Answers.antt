@@ -6,10 +6,10 @@ use Rattle.lines.specs.Contents.{contents}
 use Rattle.year.proofs.PostEnds.{post_unsound, post_accepts, post_refuses}
 use Rattle.year.proofs.posting.post_one.Goals as goal
 
-pub returns-then-not-block-is-sound : goal.returns-then-not-block-is-sound
-returns-then-not-block-is-sound g c =
+pub returns-then-not-block_is_sound : goal.returns-then-not-block_is_sound
+returns-then-not-block_is_sound g c =
     let m = sources (contents c.args.categories.now) (contents c.args.losses.now) (g.T.TariffBook.prices c.args.tariff.now) (g.I.InfillBook.values c.args.infill.now) in
-    post_unsound m c.args.year c.args.cells.now c.args.accounts.now c.args.batch.now c.args.place (sym c.block-is-sound.ensures.answer ∙ c.if-not-block-is-sound.true)
+    post_unsound m c.args.year c.args.cells.now c.args.accounts.now c.args.batch.now c.args.place (sym c.block_is_sound.ensures.answer ∙ c.if-not-block_is_sound.true)
 
 pub returns-in-Ok : goal.returns-in-Ok
 returns-in-Ok g c =
@@ -19,10 +19,10 @@ returns-in-Ok g c =
     let rows = c.args.accounts.now in
     let xs = c.args.batch.now in
     let p = c.args.place in
-    subst (λ k. Posts m y (block cells rows) xs p (Ok (open_at k, c.in-Ok.next)) (block c.post-checked.new.cells rows)) (sym c.saturating-add-accepted.ensures)
-    (post_accepts m y cells rows xs p (sym c.block-is-sound.ensures.answer ∙ c.if-not-block-is-sound.false) c.in-Ok.next c.post-checked.new.cells c.in-Ok.ensures.answer c.post-checked.ensures.after)
+    subst (λ k. Posts m y (block cells rows) xs p (Ok (open_at k, c.in-Ok.next)) (block c.post_checked.new.cells rows)) (sym c.saturating_add-accepted.ensures)
+    (post_accepts m y cells rows xs p (sym c.block_is_sound.ensures.answer ∙ c.if-not-block_is_sound.false) c.in-Ok.next c.post_checked.new.cells c.in-Ok.ensures.answer c.post_checked.ensures.after)
 
 pub returns-in-Err : goal.returns-in-Err
 returns-in-Err g c =
     let m = sources (contents c.args.categories.now) (contents c.args.losses.now) (g.T.TariffBook.prices c.args.tariff.now) (g.I.InfillBook.values c.args.infill.now) in
-    post_refuses m c.args.year c.args.cells.now c.args.accounts.now c.args.batch.now c.args.place (sym c.block-is-sound.ensures.answer ∙ c.if-not-block-is-sound.false) c.in-Err.fault c.post-checked.new.cells c.in-Err.ensures.answer c.post-checked.ensures.after
+    post_refuses m c.args.year c.args.cells.now c.args.accounts.now c.args.batch.now c.args.place (sym c.block_is_sound.ensures.answer ∙ c.if-not-block_is_sound.false) c.in-Err.fault c.post_checked.new.cells c.in-Err.ensures.answer c.post_checked.ensures.after

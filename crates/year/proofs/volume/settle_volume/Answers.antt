@@ -3,14 +3,14 @@ use Rattle.ledger.proofs.Soundness.{sound_facts}
 use Rattle.year.proofs.Reconciliations.{volume_sound, volume_settles, volume_refuses}
 use Rattle.year.proofs.volume.settle_volume.Goals as goal
 
-pub set-volumes-requires : goal.set-volumes-requires
-set-volumes-requires c =
+pub set_volumes-requires : goal.set_volumes-requires
+set_volumes-requires c =
     let b = block c.args.cells.now c.args.accounts.now in
     (sound_facts b (volume_sound b c.args.sheet.now c.in-Ok.table c.in-Ok.ensures.answer)).cells.count
 
 pub returns-in-Ok : goal.returns-in-Ok
 returns-in-Ok c =
-    volume_settles c.args.year (block c.args.cells.now c.args.accounts.now) c.args.sheet.now c.in-Ok.table c.in-Ok.ensures.answer c.set-volumes.new.cells c.set-volumes.ensures
+    volume_settles c.args.year (block c.args.cells.now c.args.accounts.now) c.args.sheet.now c.in-Ok.table c.in-Ok.ensures.answer c.set_volumes.new.cells c.set_volumes.ensures
 
 pub returns-in-Err : goal.returns-in-Err
 returns-in-Err c = volume_refuses c.args.year (block c.args.cells.now c.args.accounts.now) c.args.sheet.now c.in-Err.fault c.in-Err.ensures.answer

@@ -1,5 +1,5 @@
 use Rattle.std.proofs.Common.{get_or, pos, arith}
-use Rattle.ledger.specs.Blocks.{cell_count, zero_cell, zero_volume}
+use Rattle.ledger.specs.Blocks.{cell_count, zero_cell}
 use Rattle.year.specs.Outcomes.{cell_with_cost, with_costs}
 use Rattle.year.proofs.Tables.{written_all}
 use Rattle.year.proofs.writing.set_costs.Goals as goal

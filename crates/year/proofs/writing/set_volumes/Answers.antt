@@ -1,4 +1,4 @@
-use Rattle.std.proofs.Common.{get_or, pos, arith}
+use Rattle.std.proofs.Common.{get_or, arith}
 use Rattle.ledger.specs.Blocks.{cell_count, zero_cell, zero_volume}
 use Rattle.year.specs.Outcomes.{cell_with_volume, with_volumes}
 use Rattle.year.proofs.Tables.{written_all}
