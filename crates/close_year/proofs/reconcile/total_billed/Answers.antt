@@ -1,4 +1,4 @@
-use Rattle.std.proofs.Common.{◌≡◌, map, get_or, pos, ◌+ℤ◌, sym, ◌∙◌, ap₂, w64, SFits, rules}
+use Rattle.std.proofs.Common.{map, get_or, pos, ◌+ℤ◌, sym, ◌∙◌, ap₂, w64, SFits, rules}
 use Rattle.std.proofs.lemmas.List.{get_or-map}
 use Rattle.std.proofs.lemmas.Int.{to_z-of_z}
 use Rattle.amounts.proofs.Sums.{int_sum_to_more}
