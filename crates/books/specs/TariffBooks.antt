@@ -21,6 +21,6 @@ pub record TariffTable (lines : List TariffLine) : Type 0 where
   pub out_of_range : (account area band : ℕ) → (account_exists account && (area_exists area && band_exists band)) ≡ false → tariff_of lines account area band ≡ None
   pub in_range : (account area band : ℕ) → IfSome (tariff_of lines account area band) PricesInRange
 
--- ---- the blended book: always its one pair, for accounts, areas and bands that do not exist too; its delivery price is blended-delivery
+-- ---- the blended book: always its one pair, for accounts, areas and bands that do not exist too; its delivery price is blended_delivery
 abbrev pub blended_prices : ℕ → ℕ → ℕ → ℕ → ℕ → Option Prices
 blended_prices energy delivery account area band = Some (record { energy = energy; delivery = delivery })

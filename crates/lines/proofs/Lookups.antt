@@ -9,22 +9,22 @@ use Rattle.lines.specs.Lookups.{Rising, scan, lookup, insertion_point, with_line
 use Rattle.lines.specs.Laws.{LineOf, OneLinePerKey}
 
 -- ---- what a scan finds is one of the lines, and has what is wanted
-module _ {L : Type 0} (comes-before has : L → Bool) where
+module _ {L : Type 0} (comes_before has : L → Bool) where
   first_one_of : (x : L) (xs : List L) (l : L) → cond (has x) (Some x) None ≡ Some l → Has (x ∷ xs) l × (has l ≡ true)
   first_one_of x xs l = cond_both (has x) (Some x) None (λ o. o ≡ Some l → Has (x ∷ xs) l × (has l ≡ true))
       (λ t e. let this : x ≡ l = cc in subst (λ y. Has (x ∷ xs) y × (has y ≡ true)) this (has_append_left (x ∷ []) xs x (has_push [] x), t))
       (λ t e. let y : ◌≡◌ {A = ℕ} 0 1 = cc in absurd (omega arith))
 
-  pub scan_one_of : (xs : List L) (l : L) → scan comes-before has xs ≡ Some l → Has xs l × (has l ≡ true)
+  pub scan_one_of : (xs : List L) (l : L) → scan comes_before has xs ≡ Some l → Has xs l × (has l ≡ true)
   scan_one_of [] l e = let y : ◌≡◌ {A = ℕ} 0 1 = cc in absurd (omega arith)
   scan_one_of (x ∷ xs) l e =
-      elim (comes-before x) as (λ b. cond b (scan comes-before has xs) (cond (has x) (Some x) None) ≡ Some l → Has (x ∷ xs) l × (has l ≡ true)) [
+      elim (comes_before x) as (λ b. cond b (scan comes_before has xs) (cond (has x) (Some x) None) ≡ Some l → Has (x ∷ xs) l × (has l ≡ true)) [
         | true ↦ λ e. (let h = scan_one_of xs l e in (has_append_right (x ∷ []) xs l h.0, h.1))
         | false ↦ λ e. first_one_of x xs l e
       ] e
 
-  pub scan_none : (xs : List L) → ((l : L) → Has xs l → has l ≡ true → ⊥) → scan comes-before has xs ≡ None
-  scan_none xs lacks = elim (scan comes-before has xs) as (λ o. ((l : L) → o ≡ Some l → Has xs l × (has l ≡ true)) → o ≡ None) [
+  pub scan_none : (xs : List L) → ((l : L) → Has xs l → has l ≡ true → ⊥) → scan comes_before has xs ≡ None
+  scan_none xs lacks = elim (scan comes_before has xs) as (λ o. ((l : L) → o ≡ Some l → Has xs l × (has l ≡ true)) → o ≡ None) [
     | None ↦ λ _. refl
     | Some l ↦ λ one. absurd (lacks l (one l refl).0 (one l refl).1)
   ] (scan_one_of xs)

@@ -29,7 +29,7 @@ abbrev pub max_infill : ℕ
 max_infill = 2000000
 
 abbrev pub category_in_range : ℕ → ℕ → ℕ → Bool
-category_in_range power-factor rate discount = (nat_le min_power_factor power-factor && nat_le power-factor max_power_factor) && (nat_le rate max_rate && nat_le discount max_discount)
+category_in_range power_factor rate discount = (nat_le min_power_factor power_factor && nat_le power_factor max_power_factor) && (nat_le rate max_rate && nat_le discount max_discount)
 
 abbrev pub loss_in_range : ℕ → ℕ → Bool
 loss_in_range area loss = area_exists area && nat_le loss max_loss

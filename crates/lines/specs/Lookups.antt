@@ -4,8 +4,8 @@ use Rattle.std.specs.List.{insert, AllByRecursion as All}
 
 -- the line that has what is wanted. The lines are read from the first, as far as the first that does not come before it
 abbrev pub scan : {L : Type 0} → (L → Bool) → (L → Bool) → List L → Option L
-scan comes-before has [] = None
-scan comes-before has (x ∷ xs) = cond (comes-before x) (scan comes-before has xs) (cond (has x) (Some x) None)
+scan comes_before has [] = None
+scan comes_before has (x ∷ xs) = cond (comes_before x) (scan comes_before has xs) (cond (has x) (Some x) None)
 
 module _ {L : Type 0} (key : L → ℕ) where
   -- each line's key is below those of the lines after it

@@ -6,7 +6,7 @@ pub fits_within : (z : ℤ) (a : ℕ) → nat_abs z ≤ a → a < 2 ^ 63 → SFi
 fits_within z a l f = omega (arith, ints)
 
 -- ---- r is added to s
-module _ (s r : ℤ) (a b : ℕ) (small-s : nat_abs s ≤ a) (small_r : nat_abs r ≤ b) (few : a + b < 2 ^ 63) where
+module _ (s r : ℤ) (a b : ℕ) (small_s : nat_abs s ≤ a) (small_r : nat_abs r ≤ b) (few : a + b < 2 ^ 63) where
   pub add_is : to_z w64 (of_z w64 (s +ℤ to_z w64 (of_z w64 r))) ≡ s +ℤ r
   add_is = omega (arith, ints)
 

@@ -20,28 +20,28 @@ abbrev pub over_all_outcome : ℤ → List ℤ → Option (List ℤ)
 over_all_outcome z ws = cond (figures_in_limit z ws) (Some (map (over_all z (that_count ws)) (range_with_len 0 accounts))) None
 
 -- ---- delivery in an area
-module _ (cells : List Cell) (costs : List ℕ) (area : ℕ) (z : ℤ) (billed : List ℤ) (is-billed : billed ≡ map (λ account. billed_delivery (sums_in cells account area) (volumes_in cells account area)) (range_with_len 0 accounts)) (is-above : z ≡ pos (cost_at costs area) -ℤ int_sum_to (λ i. get_or billed i (pos 0)) accounts) where
+module _ (cells : List Cell) (costs : List ℕ) (area : ℕ) (z : ℤ) (billed : List ℤ) (is_billed : billed ≡ map (λ account. billed_delivery (sums_in cells account area) (volumes_in cells account area)) (range_with_len 0 accounts)) (is_above : z ≡ pos (cost_at costs area) -ℤ int_sum_to (λ i. get_or billed i (pos 0)) accounts) where
   delivery_above : z ≡ delivery_discrepancy (sums_in cells) (volumes_in cells) costs area
   unfolding delivery_discrepancy recovered
-  delivery_above = is-above ∙ ap (λ t. pos (cost_at costs area) -ℤ t) (sum_counted (λ account. billed_delivery (sums_in cells account area) (volumes_in cells account area)) billed accounts is-billed)
+  delivery_above = is_above ∙ ap (λ t. pos (cost_at costs area) -ℤ t) (sum_counted (λ account. billed_delivery (sums_in cells account area) (volumes_in cells account area)) billed accounts is_billed)
 
   delivery_by : billed ≡ delivery_weights (sums_in cells) (volumes_in cells) area
   unfolding delivery_weights delivery_weight
-  delivery_by = is-billed
+  delivery_by = is_billed
 
   pub delivery_shared : over_all_outcome z billed ≡ cond (delivery_in_limit cells costs area) (Some (map (λ account. delivery_adjustment (sums_in cells) (volumes_in cells) costs account area) (range_with_len 0 accounts))) None
   unfolding delivery_in_limit delivery_adjustment
   delivery_shared = ap₂ over_all_outcome delivery_above delivery_by
 
 -- ---- energy over the network
-module _ (cells : List Cell) (cost : ℕ) (z : ℤ) (billed : List ℤ) (is-billed : billed ≡ map (network_energy (sums_in cells) (volumes_in cells)) (range_with_len 0 accounts)) (is-above : z ≡ pos cost -ℤ int_sum_to (λ i. get_or billed i (pos 0)) accounts) where
+module _ (cells : List Cell) (cost : ℕ) (z : ℤ) (billed : List ℤ) (is_billed : billed ≡ map (network_energy (sums_in cells) (volumes_in cells)) (range_with_len 0 accounts)) (is_above : z ≡ pos cost -ℤ int_sum_to (λ i. get_or billed i (pos 0)) accounts) where
   energy_above : z ≡ energy_discrepancy (sums_in cells) (volumes_in cells) cost
   unfolding energy_discrepancy
-  energy_above = is-above ∙ ap (λ t. pos cost -ℤ t) (sum_counted (network_energy (sums_in cells) (volumes_in cells)) billed accounts is-billed)
+  energy_above = is_above ∙ ap (λ t. pos cost -ℤ t) (sum_counted (network_energy (sums_in cells) (volumes_in cells)) billed accounts is_billed)
 
   energy_by : billed ≡ energy_weights (sums_in cells) (volumes_in cells)
   unfolding energy_weights energy_weight
-  energy_by = is-billed
+  energy_by = is_billed
 
   pub energy_shared : over_all_outcome z billed ≡ cond (energy_in_limit cells cost) (Some (energy_adjustments (sums_in cells) (volumes_in cells) cost)) None
   unfolding energy_in_limit energy_adjustments energy_adjustment

@@ -10,12 +10,12 @@ back x m small few = omega (arith, ints)
 
 -- a and b, of sizes up to m and n, are added
 add_fits : (a b : ℤ) (m n : ℕ) → nat_abs a ≤ m → nat_abs b ≤ n → m + n < 2 ^ 63 → SFits w64 (a +ℤ to_z w64 (of_z w64 b))
-add_fits a b m n small-a small_b few = omega (arith, ints)
+add_fits a b m n small_a small_b few = omega (arith, ints)
 
 -- ---- the same, where a went to bits too
-module _ (a b : ℤ) (m n : ℕ) (small-a : nat_abs a ≤ m) (small_b : nat_abs b ≤ n) (few : m + n < 2 ^ 63) where
+module _ (a b : ℤ) (m n : ℕ) (small_a : nat_abs a ≤ m) (small_b : nat_abs b ≤ n) (few : m + n < 2 ^ 63) where
   same_a : to_z w64 (of_z w64 a) ≡ a
-  same_a = back a m small-a (omega arith)
+  same_a = back a m small_a (omega arith)
 
   pub read_fits : SFits w64 (to_z w64 (of_z w64 a) +ℤ to_z w64 (of_z w64 b))
   read_fits = add_fits (to_z w64 (of_z w64 a)) b m n (omega (arith, ap nat_abs same_a)) small_b few
@@ -24,18 +24,18 @@ module _ (a b : ℤ) (m n : ℕ) (small-a : nat_abs a ≤ m) (small_b : nat_abs 
   read_is = add_is (to_z w64 (of_z w64 a)) b m n (omega (arith, ap nat_abs same_a)) small_b few ∙ ap (λ x. x +ℤ b) same_a
 
   pub read_within : nat_abs (to_z w64 (of_z w64 (to_z w64 (of_z w64 a) +ℤ to_z w64 (of_z w64 b)))) ≤ m + n
-  read_within = omega (arith, ap nat_abs read_is, add_le a b m n small-a small_b few)
+  read_within = omega (arith, ap nat_abs read_is, add_le a b m n small_a small_b few)
 
 -- ---- a loop adds up f, of sizes up to k: s is the sum of the first i, and r the next
-module _ (f : ℕ → ℤ) (i k : ℕ) (s r : ℤ) (so_far : s ≡ int_sum_to f i) (small-s : nat_abs s ≤ i * k) (next : r ≡ f i) (small_r : nat_abs r ≤ k) (few : i * k + k < 2 ^ 63) where
+module _ (f : ℕ → ℤ) (i k : ℕ) (s r : ℤ) (so_far : s ≡ int_sum_to f i) (small_s : nat_abs s ≤ i * k) (next : r ≡ f i) (small_r : nat_abs r ≤ k) (few : i * k + k < 2 ^ 63) where
   pub total_fits : SFits w64 (s +ℤ to_z w64 (of_z w64 r))
-  total_fits = add_fits s r (i * k) k small-s small_r few
+  total_fits = add_fits s r (i * k) k small_s small_r few
 
   pub total_more : to_z w64 (of_z w64 (s +ℤ to_z w64 (of_z w64 r))) ≡ int_sum_to f (i + 1)
-  total_more = add_is s r (i * k) k small-s small_r few ∙ ap₂ ◌+ℤ◌ so_far next ∙ sym (int_sum_to_more f i)
+  total_more = add_is s r (i * k) k small_s small_r few ∙ ap₂ ◌+ℤ◌ so_far next ∙ sym (int_sum_to_more f i)
 
   pub total_within : nat_abs (to_z w64 (of_z w64 (s +ℤ to_z w64 (of_z w64 r)))) ≤ i * k + k
-  total_within = omega (arith, ap nat_abs (add_is s r (i * k) k small-s small_r few), add_le s r (i * k) k small-s small_r few)
+  total_within = omega (arith, ap nat_abs (add_is s r (i * k) k small_s small_r few), add_le s r (i * k) k small_s small_r few)
 
 -- ---- t, which is s, of a size up to m, is subtracted from the natural n
 module _ (n : ℕ) (t s : ℤ) (is : t ≡ s) (m : ℕ) (small : nat_abs t ≤ m) (few : n + m < 2 ^ 63) where

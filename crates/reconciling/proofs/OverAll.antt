@@ -31,12 +31,12 @@ module _ (z : ℤ) (ws : List ℕ) (n : ℕ) where
   adjusted y e = fill_by_all (over_all z ws) (set parts 0 y) n (pos 0) (length-set parts 0 y ∙ length-map-range_with_len (part z ws) 0 n) (adjusted_at y e)
 
 -- ---- figures that are equal are shared alike
-module _ (z z' : ℤ) (ws ws' : List ℤ) (cs cs' : List ℕ) (same-z : z' ≡ z) (same-ws : ws' ≡ ws) (same-cs : cs' ≡ cs) where
+module _ (z z' : ℤ) (ws ws' : List ℤ) (cs cs' : List ℕ) (same_z : z' ≡ z) (same_ws : ws' ≡ ws) (same_cs : cs' ≡ cs) where
   pub same_outcome : (n : ℕ) → outcome z' ws' cs' n ≡ outcome z ws cs n
-  same_outcome n = ap (λ y. outcome y ws' cs' n) same-z ∙ ap₂ (λ y x. outcome z y x n) same-ws same-cs
+  same_outcome n = ap (λ y. outcome y ws' cs' n) same_z ∙ ap₂ (λ y x. outcome z y x n) same_ws same_cs
 
   pub same_after : (ps : List ℤ) → parts_after z' ws' cs' ps ≡ parts_after z ws cs ps
-  same_after ps = ap (λ y. parts_after y ws' cs' ps) same-z ∙ ap₂ (λ y x. parts_after z y x ps) same-ws same-cs
+  same_after ps = ap (λ y. parts_after y ws' cs' ps) same_z ∙ ap₂ (λ y x. parts_after z y x ps) same_ws same_cs
 
 -- ---- a call that shares z by the weights ws over all accounts, with a place for each
 module _ (z : ℤ) (ws ps : List ℤ) (long : length ws ≡ accounts) (room : length ps ≡ accounts) where

@@ -16,8 +16,8 @@ module _ (s : Statement) (bs : List ℕ) (place : ℕ) (room : place + statement
   front_long = length-take-le place bs (omega arith)
 
   pub put_statement : (last : List ℕ) → last ≡ statement_bytes s ++ drop statement_size (take (length bs - place) (drop place bs)) → put_mid place (length bs - place) bs last ≡ statement_written s bs place
-  put_statement last last-is =
-      put_after place statement_size bs (take place bs) (drop place bs) (statement_bytes s) last (sym (take-append-drop place bs)) front_long last-is
+  put_statement last last_is =
+      put_after place statement_size bs (take place bs) (drop place bs) (statement_bytes s) last (sym (take-append-drop place bs)) front_long last_is
       ∙ append_assoc (take place bs) (statement_bytes s) (drop statement_size (drop place bs))
       ∙ ap (λ (ys : List ℕ). take place bs ++ (statement_bytes s ++ ys)) (drop-drop statement_size place bs)
 
