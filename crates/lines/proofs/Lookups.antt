@@ -4,7 +4,7 @@ use Rattle.std.proofs.ByRecursion.{All-append, All-take, All-drop, All-set, All-
 use Rattle.std.proofs.lemmas.List.{at_drop_more, at_drop_all}
 use Rattle.std.proofs.lemmas.Bool.{eq-eqb, ltb-true, ltb-false, lt-ltb, le-ltb, eqb-true, cond-true, cond-false, cond_both, cases_order}
 use Rattle.std.proofs.lemmas.Bool.Decides.{nat_tests}
-use Rattle.std.specs.List.{insert, ContainsAt as Has, AllByRecursion as All}
+use Rattle.std.specs.List.{insert, ContainsAt as Has, AllByRecursion}
 use Rattle.lines.specs.Lookups.{Rising, scan, lookup, insertion_point, with_line, with_replaced}
 use Rattle.lines.specs.Laws.{LineOf, OneLinePerKey}
 
@@ -105,7 +105,7 @@ module _ {L : Type 0} (key : L → ℕ) where
   ]
 
   -- ---- a line that is added
-  all_inserted : (P : L → Type 0) (xs : List L) (i : ℕ) (x : L) → All P xs → P x → All P (insert xs i x)
+  all_inserted : (P : L → Type 0) (xs : List L) (i : ℕ) (x : L) → AllByRecursion P xs → P x → AllByRecursion P (insert xs i x)
   all_inserted P xs i x a p = All-append P (take i xs) (x ∷ drop i xs) (All-take P i xs a) (p, All-drop P i xs a)
 
   pub rising_with : (line : L) (xs : List L) → lookup key (key line) xs ≡ None → Rising key xs → Rising key (with_line key line xs)
@@ -145,7 +145,7 @@ module _ {L : Type 0} (key : L → ℕ) where
         All-set (λ y. key x < key y) xs _ line (ltb-true _ _ t) up.0,
         rising_replaced line xs (ap is_some (sym (cond-true (ltb (key x) (key line)) (lookup key (key line) xs) _ t)) ∙ there) up.1,
       ))
-      (λ t. (subst (λ n. All (λ y. n < key y) xs) (first_has_key line x xs t there) up.0, up.1))
+      (λ t. (subst (λ n. AllByRecursion (λ y. n < key y) xs) (first_has_key line x xs t there) up.0, up.1))
 
   pub lookup_replaced : (k : ℕ) (line : L) (xs : List L) → is_some (lookup key (key line) xs) ≡ true → lookup key k (with_replaced key line xs) ≡ cond (eqb (key line) k) (Some line) (lookup key k xs)
   lookup_replaced k line [] there = let y : ◌≡◌ {A = ℕ} 0 1 = cc in absurd (omega arith)

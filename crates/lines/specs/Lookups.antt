@@ -1,6 +1,6 @@
 -- Lines in the order of their keys.
 use Rattle.std.specs.Prelude.{ℕ, suc, ◌<◌, Bool, cond, ltb, List, [], ◌∷◌, Some, None, Option, nat_eq, nat_lt, slice_set}
-use Rattle.std.specs.List.{insert, AllByRecursion as All}
+use Rattle.std.specs.List.{insert, AllByRecursion}
 
 -- the line that has what is wanted. The lines are read from the first, as far as the first that does not come before it
 abbrev pub scan : {L : Type 0} → (L → Bool) → (L → Bool) → List L → Option L
@@ -11,7 +11,7 @@ module _ {L : Type 0} (key : L → ℕ) where
   -- each line's key is below those of the lines after it
   abbrev pub Rising : List L → Type 0
   Rising [] = Unit {0}
-  Rising (x ∷ xs) = All (λ y. key x < key y) xs × Rising xs
+  Rising (x ∷ xs) = AllByRecursion (λ y. key x < key y) xs × Rising xs
 
   -- the line that has the key k
   abbrev pub lookup : ℕ → List L → Option L

@@ -1,6 +1,6 @@
 -- A statement's bytes, wherever they lie, are read as the statement.
 use Rattle.std.proofs.Common.{◌≡◌, ℕ, zero, suc, ◌+◌, ◌*◌, ◌<◌, List, [], ◌∷◌, ◌++◌, length, get_or, take, drop, ℤ, pos, sym, refl, ap, ◌∙◌, add-zero, mul-zero, mul-suc, arith, w64, SFits, to_z}
-use Rattle.std.specs.List.{flat_map, AllByRecursion as All}
+use Rattle.std.specs.List.{flat_map, AllByRecursion}
 use Rattle.std.proofs.lemmas.List.FromFn.{fill_by_all}
 use Rattle.std.proofs.lemmas.List.{append_assoc, drop_at, drop-drop, get_or-drop}
 use Rattle.amounts.specs.Ranges.{areas}
@@ -18,7 +18,7 @@ behind bs part rest p n long here = sym (drop-drop n p bs) ∙ ap (drop n) here 
 
 -- items one after another: `at` reads each where it lies
 module _ {X : Type 0} (f : X → List ℕ) (n : ℕ) (long : (x : X) → length (f x) ≡ n) (at : List ℕ → ℕ → X) (Fit : X → Type 0) (bs : List ℕ) (first : (p : ℕ) (x : X) (rest : List ℕ) → Fit x → drop p bs ≡ f x ++ rest → at bs p ≡ x) where
-  items_here : (xs : List X) (p : ℕ) (rest : List ℕ) → All Fit xs → drop p bs ≡ flat_map f xs ++ rest → (k : ℕ) (d : X) → k < length xs → at bs (p + n * k) ≡ get_or xs k d
+  items_here : (xs : List X) (p : ℕ) (rest : List ℕ) → AllByRecursion Fit xs → drop p bs ≡ flat_map f xs ++ rest → (k : ℕ) (d : X) → k < length xs → at bs (p + n * k) ≡ get_or xs k d
   items_here [] p rest fits here k d below = absurd (omega arith)
   items_here (x ∷ xs) p rest fits here zero d below =
       ap (at bs) (omega (arith, mul-zero n)) ∙ first p x (flat_map f xs ++ rest) fits.0 (here ∙ append_assoc (f x) (flat_map f xs) rest)
@@ -49,7 +49,7 @@ pub areas_at_each : (bs : List ℕ) (p : ℕ) (xs : List AreaAmounts) (n : ℕ) 
 unfolding areas_at
 areas_at_each bs p xs n long each = fill_by_all (λ k. area_at bs (p + 64 * k)) xs n (area_at bs 0) long each
 
-areas_here : (bs : List ℕ) (p : ℕ) (xs : List AreaAmounts) (rest : List ℕ) (n : ℕ) → length xs ≡ n → All AreaFits xs → drop p bs ≡ flat_map area_bytes xs ++ rest → areas_at n bs p ≡ xs
+areas_here : (bs : List ℕ) (p : ℕ) (xs : List AreaAmounts) (rest : List ℕ) (n : ℕ) → length xs ≡ n → AllByRecursion AreaFits xs → drop p bs ≡ flat_map area_bytes xs ++ rest → areas_at n bs p ≡ xs
 areas_here bs p xs rest n long fits here =
     let at = items_here area_bytes 64 length_area_bytes area_at AreaFits bs (area_here bs) xs p rest fits here in
     sym (areas_at_each bs p xs n long (λ k below. sym (at k (area_at bs 0) (omega arith))))

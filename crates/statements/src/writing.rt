@@ -1,6 +1,6 @@
 // Writing a statement into a lent buffer. A tail is what is left of the buffer from some place on.
 ghost use Rattle.std.specs.Prelude.{◌≡◌, ◌*◌, ◌≤◌, false, ◌∷◌, ◌++◌, length, drop, is_ok, Ok, OnOk};
-ghost use Rattle.std.specs.List.{flat_map, AllByRecursion as All};
+ghost use Rattle.std.specs.List.{flat_map, AllByRecursion};
 ghost use Rattle.statements.specs.Amounts.{amount_bytes};
 ghost use Rattle.statements.specs.Layout.{amounts_of, area_bytes, statement_bytes, statement_size};
 ghost use Rattle.statements.specs.Outcomes.{write_outcome, buffer_after, SameOutside, statement_read};
@@ -61,7 +61,7 @@ fn write_area(tail: &mut [u8], area: &AreaAmounts)
 fn write_areas(tail: &mut [u8], areas: &[AreaAmounts])
     requires { 64 * length areas.now ≤ length tail.old }
     ensures after { tail.new ≡ flat_map area_bytes areas.now ++ drop (64 * length areas.now) tail.old }
-    ensures fits { All AreaFits areas.now }
+    ensures fits { AllByRecursion AreaFits areas.now }
 {
     for (i, area) in areas.iter().enumerate() {
         write_area(&mut tail[AREA_SIZE * i..], area);
