@@ -12,15 +12,12 @@ module _ (z : ℤ) (ws : List ℤ) (cs : List ℕ) (ps : List ℤ) where
   Ends r qs = (r ≡ outcome z ws cs (length ps)) × (qs ≡ parts_after z ws cs ps)
 
   pub ends_at_limits : figures_in_limit z ws ≡ false → Ends (Err BeyondLimits) ps
-  unfolding outcome parts_after
   ends_at_limits e = (sym (cond-false _ _ _ e), sym (cond-false _ _ _ (and_left _ _ e)))
 
   pub ends_at_accounts : figures_in_limit z ws ≡ true → rising 0 cs ≡ false → Ends (Err Accounts) ps
-  unfolding outcome parts_after
   ends_at_accounts e f = (sym (cond-true _ _ _ e ∙ cond-false _ _ _ f), sym (cond-false _ _ _ (and_right _ _ (and_left _ _ f))))
 
   pub ends_at_places : figures_in_limit z ws ≡ true → rising 0 cs ≡ true → length ps < length ws → Ends (Err TooFewPlaces) ps
-  unfolding outcome parts_after
   ends_at_places e f l =
       let k = lt-leb (length ws) (length ps) l in (
         sym (cond-true _ _ _ e ∙ cond-true _ _ _ f ∙ cond-false _ _ _ k),
@@ -28,7 +25,6 @@ module _ (z : ℤ) (ws : List ℤ) (cs : List ℕ) (ps : List ℤ) where
       )
 
   pub ends_shared : figures_in_limit z ws ≡ true → rising 0 cs ≡ true → length ws ≤ length ps → Ends (Ok (unshared z (map counting_weight ws))) (written (part z (map counting_weight ws)) (length ws) ps)
-  unfolding outcome parts_after
   ends_shared e f l =
       let k = le-leb (length ws) (length ps) l in
       (sym (cond-true _ _ _ e ∙ cond-true _ _ _ f ∙ cond-true _ _ _ k), sym (cond-true _ _ _ (and_from _ _ e (and_from _ _ f k))))

@@ -6,7 +6,7 @@ use Rattle.sharing.specs.Limits.{figures_in_limit, rising}
 use Rattle.sharing.specs.Shares.{counting_weight, part, unshared, written}
 
 -- the checks in the order of the fault table
-unfoldable pub outcome : ℤ → List ℤ → List ℕ → ℕ → Result ℤ ShareFault
+abbrev pub outcome : ℤ → List ℤ → List ℕ → ℕ → Result ℤ ShareFault
 outcome z ws cs places =
     cond (figures_in_limit z ws)
     (cond (rising 0 cs)
@@ -17,7 +17,7 @@ outcome z ws cs places =
 abbrev pub accepted : ℤ → List ℤ → List ℕ → ℕ → Bool
 accepted z ws cs places = figures_in_limit z ws && (rising 0 cs && nat_le (length ws) places)
 
-unfoldable pub parts_after : ℤ → List ℤ → List ℕ → List ℤ → List ℤ
+abbrev pub parts_after : ℤ → List ℤ → List ℕ → List ℤ → List ℤ
 parts_after z ws cs ps =
     cond (accepted z ws cs (length ps))
     (written (part z (map counting_weight ws)) (length ws) ps)

@@ -2,11 +2,10 @@ use Rattle.std.proofs.Common.{refl}
 use Rattle.ledger.specs.Units.{kwh_of}
 use Rattle.reconciling.specs.Sharing.{over_operators}
 use Rattle.reconciling.specs.Volumes.{billed_kwh, volume_weight, discrepancy, managers_kwh, operator_weights, adjusted_kwh, volume_kwh}
-use Rattle.sharing.specs.Outcomes.{outcome, parts_after}
 use Rattle.figures.proofs.figures_hold.Goals as goal
 
 pub returns : goal.returns
-unfolding outcome parts_after kwh_of billed_kwh volume_weight discrepancy managers_kwh operator_weights over_operators adjusted_kwh volume_kwh
+unfolding kwh_of billed_kwh volume_weight discrepancy managers_kwh operator_weights over_operators adjusted_kwh volume_kwh
 returns c = record {
   short_energy = record { answer = refl; parts = refl };
   over_delivery = record { answer = refl; parts = refl };
