@@ -1,3 +1,4 @@
 pub mod Quotients
 pub mod Sums
 pub mod Lowest
+pub mod Made

@@ -8,3 +8,4 @@ pub mod Written
 pub mod Fairness
 pub mod Lines
 pub mod Outcomes
+pub mod Totals

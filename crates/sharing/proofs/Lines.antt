@@ -1,34 +1,17 @@
--- The loops over the lines that look at limits and accounts, or copy weights.
-use Rattle.std.proofs.Common.{◌≡◌, ℕ, zero, suc, ◌+◌, ◌<◌, ◌≤◌, true, false, ◌&&◌, leb, ◌⊎◌, List, [], ◌∷◌, ◌++◌, map, length, get_or, take, drop, set, ℤ, pos, negsuc, nat_abs, sym, ap, ◌∙◌, ap₂, inl, inr, arith}
-use lib.Signed.{le_z, lt_z}
-use Rattle.std.proofs.lemmas.List.{at_drop_more, at_drop_all, take_more_set, map_more, map_push}
+-- The checks of the lines: their limits and their accounts.
+use Rattle.std.proofs.Common.{◌≡◌, ℕ, zero, suc, ◌+◌, ◌<◌, ◌≤◌, true, false, ◌&&◌, leb, ◌⊎◌, List, [], ◌∷◌, map, length, get_or, drop, ℤ, pos, negsuc, nat_abs, sym, refl, ap, ◌∙◌, inl, inr, arith}
+use Rattle.std.specs.List.{list_all}
+use lib.Signed.{le_z}
+use Rattle.std.proofs.lemmas.List.{at_drop_more, at_drop_all}
 use Rattle.std.proofs.lemmas.Bool.{and_parts, and_left, and_right, and_from, leb-true, le-leb, lt-leb}
-use Rattle.std.proofs.lemmas.Int.{ints}
 use Rattle.amounts.specs.Ranges.{account_exists, within}
 use Rattle.sharing.specs.Shares.{counting_weight}
 use Rattle.sharing.specs.Limits.{max_amount, max_weight, max_lines, weights_in_limit, figures_in_limit, rising}
 
 -- ---- weights
-module _ {L : Type 0} (f : L → ℤ) (ls : List L) where
-  pub limit_more : (i : ℕ) (x : L) (w : ℤ) → i < length ls → x ≡ get_or ls i x → w ≡ f x → weights_in_limit (map f (drop i ls)) ≡ (le_z w (pos max_weight) && weights_in_limit (map f (drop (i + 1) ls)))
-  limit_more i x w l read e =
-      at_drop_more (λ xs. weights_in_limit (map f xs)) ls i x l
-      ∙ ap (λ y. le_z y (pos max_weight) && weights_in_limit (map f (drop (i + 1) ls))) (ap f (sym read) ∙ sym e)
-
-  pub limit_all : (i : ℕ) → length ls ≤ i → weights_in_limit (map f (drop i ls)) ≡ true
-  limit_all i l = at_drop_all (λ xs. weights_in_limit (map f xs)) ls i l
-
-  pub copied_more : (i : ℕ) (x : L) (ws : List ℕ) (v : ℕ) → i < length ls → i < length ws → x ≡ get_or ls i x → v ≡ counting_weight (f x) → take i ws ≡ map counting_weight (map f (take i ls)) → take (i + 1) (set ws i v) ≡ map counting_weight (map f (take (i + 1) ls))
-  copied_more i x ws v l m read e h =
-      take_more_set ws i v m
-      ∙ ap₂ (λ front y. front ++ y ∷ []) h (e ∙ ap (λ y. counting_weight (f y)) read)
-      ∙ sym (ap (map counting_weight) (map_more f ls i x l) ∙ map_push counting_weight (map f (take i ls)) (f (get_or ls i x)))
-
-pub over : (w : ℤ) → lt_z (pos max_weight) w ≡ true → le_z w (pos max_weight) ≡ false
-over w h = grind (arith, ints)
-
-pub under : (w : ℤ) → lt_z (pos max_weight) w ≡ false → le_z w (pos max_weight) ≡ true
-under w h = grind (arith, ints)
+pub limit_is : {L : Type 0} (f : L → ℤ) (ls : List L) → list_all (λ l. le_z (f l) (pos max_weight)) ls ≡ weights_in_limit (map f ls)
+limit_is f [] = refl
+limit_is f (l ∷ ls) = ap (λ b. le_z (f l) (pos max_weight) && b) (limit_is f ls)
 
 counting_le : (z : ℤ) → le_z z (pos max_weight) ≡ true → counting_weight z ≤ max_weight
 counting_le (pos n) e = leb-true n max_weight e

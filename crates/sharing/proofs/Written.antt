@@ -1,8 +1,8 @@
 -- Places that are written one after another.
-use Rattle.std.proofs.Common.{◌≡◌, ℕ, zero, suc, ◌+◌, ◌<◌, ◌≤◌, List, [], ◌∷◌, ◌++◌, map, length, get_or, drop, set, ℤ, pos, sym, refl, ap, ◌∙◌, append_assoc, arith}
+use Rattle.std.proofs.Common.{◌≡◌, ℕ, ◌+◌, ◌<◌, List, [], ◌∷◌, ◌++◌, map, length, replicate, get_or, drop, set, ℤ, pos, sym, ap, ◌∙◌, append_assoc, arith}
 use Rattle.std.specs.List.{range_with_len}
-use Rattle.std.proofs.lemmas.List.{drop_more, drop_at, set_at, get_or_append_left}
-use Rattle.std.proofs.lemmas.List.FromFn.{length-map-range_with_len, map-range_with_len_more, get_or-map-range_with_len}
+use Rattle.std.proofs.lemmas.List.{drop_more, drop_at, set_at, get_or_append_left, length-replicate, get_or-replicate}
+use Rattle.std.proofs.lemmas.List.FromFn.{fill_by_all, length-map-range_with_len, map-range_with_len_more, get_or-map-range_with_len}
 use Rattle.sharing.specs.Shares.{written}
 
 pub written_more : (f : ℕ → ℤ) (i : ℕ) (ps : List ℤ) → i < length ps → set (written f i ps) i (f i) ≡ written f (i + 1) ps
@@ -12,12 +12,11 @@ written_more f i ps l =
     ∙ sym (append_assoc (map f (range_with_len 0 i)) (f i ∷ []) (drop (i + 1) ps))
     ∙ ap (λ front. front ++ drop (i + 1) ps) (sym (map-range_with_len_more f 0 i i (omega arith)))
 
-map_counting_ext : (f g : ℕ → ℤ) (b n : ℕ) → ((k : ℕ) → b ≤ k → k < b + n → f k ≡ g k) → map f (range_with_len b n) ≡ map g (range_with_len b n)
-map_counting_ext f g b zero h = refl
-map_counting_ext f g b (suc n) h = ap (λ x. x ∷ map f (range_with_len (b + 1) n)) (h b (omega arith) (omega arith)) ∙ ap (λ xs. g b ∷ xs) (map_counting_ext f g (b + 1) n (λ k l m. h k (omega arith) (omega arith)))
-
-pub written_ext : (f g : ℕ → ℤ) (n : ℕ) (ps : List ℤ) → ((k : ℕ) → k < n → f k ≡ g k) → written f n ps ≡ written g n ps
-written_ext f g n ps h = ap (λ front. front ++ drop n ps) (map_counting_ext f g 0 n (λ k _ l. h k (omega arith)))
+-- where all that is written is zero
+pub written_zeros : (f : ℕ → ℤ) (n : ℕ) (ps : List ℤ) → ((k : ℕ) → f k ≡ pos 0) → replicate n (pos 0) ++ drop n ps ≡ written f n ps
+written_zeros f n ps h =
+    ap (λ front. front ++ drop n ps)
+    (fill_by_all f (replicate n (pos 0)) n (pos 0) (length-replicate n (pos 0)) (λ k l. get_or-replicate n k (pos 0) (pos 0) l ∙ sym (h k)))
 
 pub written_at : (f : ℕ → ℤ) (n : ℕ) (ps : List ℤ) (i : ℕ) → i < n → get_or (written f n ps) i (pos 0) ≡ f i
 written_at f n ps i l =

@@ -3,3 +3,4 @@ pub mod Limits
 pub mod Faults
 pub mod Outcomes
 pub mod Laws
+pub mod Claims

@@ -1,7 +1,8 @@
 // What a sharing refuses: figures beyond their limits, and accounts that do not rise.
-ghost use Rattle.std.specs.Prelude.{◌≡◌, ◌&&◌, map, nat_le};
+ghost use Rattle.std.specs.Prelude.{◌≡◌, ◌&&◌, map, pos, nat_le, int_le};
+ghost use Rattle.std.specs.List.{list_all};
 ghost use Rattle.amounts.specs.Ranges.{account_exists};
-ghost use Rattle.sharing.specs.Limits.{weights_in_limit, figures_in_limit, rising};
+ghost use Rattle.sharing.specs.Limits.{max_weight, figures_in_limit, rising};
 
 use crate::line::{AccountLine, Weighted};
 use amounts::{account_exists, within};
@@ -16,24 +17,16 @@ const MAX_WEIGHT: i64 = 3_000_000_000;
 pub(crate) const MAX_LINES: usize = 64;
 
 fn weights_in_limit<L: Weighted>(lines: &[L]) -> bool
-    ensures { result ≡ weights_in_limit (map L.weight lines.now) }
+    ensures { result ≡ list_all (λ line. int_le (L.weight line) (pos max_weight)) lines.now }
 {
-    for line in lines {
-        if line.weight() > MAX_WEIGHT {
-            return false;
-        }
-    }
-    true
+    lines.iter().all(|line| line.weight() <= MAX_WEIGHT)
 }
 
 // Whether the amount, the number of the lines and their weights are within their limits.
 pub(crate) fn figures_in_limit<L: Weighted>(amount: i64, lines: &[L]) -> bool
     ensures { result ≡ figures_in_limit amount (map L.weight lines.now) }
 {
-    if !within(amount, MAX_AMOUNT) || lines.len() > MAX_LINES {
-        return false;
-    }
-    weights_in_limit(lines)
+    within(amount, MAX_AMOUNT) && lines.len() <= MAX_LINES && weights_in_limit(lines)
 }
 
 // Whether the account exists and is at least `low`.
@@ -43,7 +36,7 @@ fn may_follow(low: u8, account: u8) -> bool
     low <= account && account_exists(account)
 }
 
-// Whether the accounts exist and rise.
+// Whether the accounts exist and rise. A loop, since each account moves the bound of the next.
 pub(crate) fn accounts_rise<L: AccountLine>(lines: &[L]) -> bool
     ensures { result ≡ rising 0 (map L.account lines.now) }
 {

@@ -7,17 +7,19 @@ ghost use Rattle.sharing.specs.Outcomes.{outcome, parts_after};
 ghost use Rattle.sharing.specs.Laws.{FairShare};
 
 mod checks;
+mod claims;
 mod fault;
 mod line;
-mod ranking;
+mod quantity;
 mod spreading;
 mod weights;
 
-use checks::{MAX_LINES, accounts_rise, figures_in_limit};
+use checks::{accounts_rise, figures_in_limit};
 pub use fault::ShareFault;
-pub use line::{AccountLine, Weighted};
+pub use line::{AccountLine, AccountQuantity, Weighted};
+pub use quantity::{Kwh, Pence};
 use spreading::spread;
-use weights::copy_weights;
+use weights::weights_of;
 
 // Shares `amount` among the lines by their weights, into the first places of `parts`, and answers what is not shared:
 // nothing, unless no line takes part.
@@ -38,7 +40,6 @@ pub fn share<L: AccountLine>(amount: i64, lines: &[L], parts: &mut [i64]) -> Res
     if parts.len() < count {
         return Err(ShareFault::TooFewPlaces);
     }
-    let mut weights = [0; MAX_LINES];
-    copy_weights(lines, &mut weights);
-    Ok(spread(amount, &weights[0..count], parts))
+    let weights = weights_of(lines);
+    Ok(spread(amount, &weights[..count], parts))
 }

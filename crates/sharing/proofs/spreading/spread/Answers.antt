@@ -1,46 +1,81 @@
-use Rattle.std.proofs.Common.{◌≡◌, ◌-◌, ◌<◌, eqb, length, set, pos, nat_abs, sym, ap, ◌∙◌, ap₂, arith, w64, to_z, of_z}
+use Rattle.std.proofs.Common.{◌≡◌, ◌<◌, eqb, length, replicate, set, pos, nat_abs, sym, ap, ◌∙◌, ap₂, arith, rules, w64, to_z, of_z, get_or, take, drop, ◌++◌}
 use Rattle.std.proofs.lemmas.Int.{to_z-of_z}
 use Rattle.std.proofs.lemmas.Bool.{cond-true, eq-eqb}
-use Rattle.std.proofs.lemmas.Bool.Decides.{nat_tests}
 use Rattle.amounts.specs.Quotients.{with_sign}
-use Rattle.sharing.specs.Shares.{total_weight, part}
-use Rattle.sharing.proofs.Steps.{size_from, size_within, no_total_no_part}
-use Rattle.sharing.proofs.Written.{written_more, written_ext}
+use Rattle.sharing.specs.declared.claims.Claim.{Claim}
+use Rattle.sharing.specs.Shares.{total_weight, size, part, written}
+use Rattle.sharing.proofs.Steps.{size_within, no_total_no_part}
+use Rattle.sharing.proofs.Totals.{total_is, total_fits, some_total, no_total, unshared_none, claim_is, quotients_fit, inside, units_are}
+use Rattle.sharing.proofs.Written.{written_more, written_zeros}
 use Rattle.sharing.proofs.spreading.spread.Goals as goal
 
+pub total_of-requires : goal.total_of-requires
+total_of-requires c = total_fits c.args.weights.now c.requires.limits
+
 -- where the total is no divisor, it is 0
-pub returns-in_default : goal.returns-in_default
-returns-in_default c =
+pub returns-in_default-clause-answer : goal.returns-in_default-clause-answer
+returns-in_default-clause-answer c =
     let ws = c.args.weights.now in
     let z = c.args.amount in
-    let t = c.total_of.result in
-    let out = c.in_default.ensures.range in
-    let bound = c.total_of.ensures.bounded in
-    let none : t ≡ 0 = grind (arith, nat_tests) in
-    let nil : total_weight ws ≡ 0 = sym c.total_of.ensures.total ∙ none in
-    record {
-      answer = to_z-of_z w64 z c.ranges.amount ∙ sym (cond-true (eqb (total_weight ws) 0) z (pos 0) (eq-eqb (total_weight ws) 0 nil));
-      after = c.clear.ensures ∙ written_ext (λ _. pos 0) (part z ws) (length ws) c.args.parts.now (λ k _. sym (no_total_no_part z ws k nil));
-    }
+    to_z-of_z w64 z c.ranges.amount ∙ sym (cond-true (eqb (total_weight ws) 0) z (pos 0) (eq-eqb (total_weight ws) 0 (no_total ws c.total_of.result c.requires.limits c.total_of.ensures c.in_default.ensures.range)))
 
-pub with_sign-requires : goal.with_sign-requires
-with_sign-requires c =
+pub returns-in_default-clause-after : goal.returns-in_default-clause-after
+returns-in_default-clause-after c =
     let ws = c.args.weights.now in
-    let z = c.args.amount in
-    let total = c.in-Some.ensures.value ∙ c.total_of.ensures.total in
-    let some : 0 < total_weight ws = omega (arith, total, c.in-Some.total.positive) in
-    let fit = size_from z c.unsigned_abs-size.result ws c.divide-leftover.new.remainders (length ws - 0) c.loop-i.i c.get.result c.divide-leftover.result c.extra_unit-extra.result
-    (c.unsigned_abs-size.ensures.value ∙ ap nat_abs (to_z-of_z w64 z c.ranges.amount)) (c.get.ensures ∙ total) (omega arith) c.loop-i-test.true c.divide-leftover.ensures.noted c.divide-leftover.ensures.units c.extra_unit-extra.ensures in
-    omega (arith, fit, size_within (nat_abs z) ws some c.loop-i.i c.loop-i-test.true, c.requires.small)
+    let filled : c.fill.new.self ≡ replicate (length ws) (pos 0) = search rules in
+    ap (λ front. front ++ drop (length ws) c.args.parts.now) filled
+    ∙ written_zeros (part c.args.amount ws) (length ws) c.args.parts.now (λ k. no_total_no_part c.args.amount ws k (no_total ws c.total_of.result c.requires.limits c.total_of.ensures c.in_default.ensures.range))
 
-pub loop-i-preserved : goal.loop-i-preserved
-loop-i-preserved c =
+pub claims_of-claims-requires-clause-total : goal.claims_of-claims-requires-clause-total
+claims_of-claims-requires-clause-total c = c.in-Some.ensures.value ∙ c.total_of.ensures ∙ total_is c.args.weights.now
+
+abbrev none : Claim
+none = record { index = 0; weight = 0; quotient = 0; remainder = 0 }
+
+pub leftover-leftover-requires : goal.leftover-leftover-requires
+leftover-leftover-requires c = quotients_fit c.unsigned_abs-size.result c.args.weights.now c.claims_of-claims.result c.claims_of-claims.ensures c.requires.limits.0 (some_total c.args.weights.now c.total_of.result c.in-Some.total.value c.total_of.ensures c.in-Some.ensures.value c.in-Some.total.positive)
+
+pub part_of-requires : goal.part_of-requires
+part_of-requires c =
+    let a = c.unsigned_abs-size.result in
+    let ws = c.args.weights.now in
+    let i = c.loop-claim.claim-index in
+    let few = c.requires.limits.0 in
+    let is = c.claims_of-claims.ensures in
+    let amount = c.unsigned_abs-size.ensures.value ∙ ap nat_abs (to_z-of_z w64 c.args.amount c.ranges.amount) in
+    let fit = units_are a ws c.claims_of-claims.result is few i c.leftover-leftover.result none c.loop-claim-test.true c.leftover-leftover.ensures in
+    omega (arith, fit, size_within a ws (some_total ws c.total_of.result c.in-Some.total.value c.total_of.ensures c.in-Some.ensures.value c.in-Some.total.positive) i (inside a ws c.claims_of-claims.result is few i c.loop-claim-test.true), amount, c.requires.small)
+
+-- the claim of an iteration is that of its line
+index_is : (c : goal.After-part_of) → (get_or (take (length c.args.weights.now) c.claims_of-claims.result) c.loop-claim.claim-index none).index ≡ c.loop-claim.claim-index
+index_is c =
+    let a = c.unsigned_abs-size.result in
+    let i = c.loop-claim.claim-index in
+    let few = c.requires.limits.0 in
+    let is = c.claims_of-claims.ensures in
+    ap (λ (o : Claim). o.index) (claim_is a c.args.weights.now c.claims_of-claims.result is few i none (inside a c.args.weights.now c.claims_of-claims.result is few i c.loop-claim-test.true))
+
+inside_parts : (c : goal.After-part_of) → c.loop-claim.claim-index < length c.args.parts.now
+inside_parts c = omega (arith, inside c.unsigned_abs-size.result c.args.weights.now c.claims_of-claims.result c.claims_of-claims.ensures c.requires.limits.0 c.loop-claim.claim-index c.loop-claim-test.true, c.requires.room)
+
+pub bounds-parts-claim : goal.bounds-parts-claim
+bounds-parts-claim c = omega (arith, index_is c, inside_parts c, c.loop-claim.auto.parts)
+
+pub offset_bounds-parts-claim : goal.offset_bounds-parts-claim
+offset_bounds-parts-claim c = let e = index_is c in let l = inside_parts c in search rules
+
+pub loop-claim-preserved : goal.loop-claim-preserved
+loop-claim-preserved c =
+    let a = c.unsigned_abs-size.result in
     let ws = c.args.weights.now in
     let z = to_z w64 (of_z w64 c.args.amount) in
-    let i = c.loop-i.i in
-    let total = c.in-Some.ensures.value ∙ c.total_of.ensures.total in
-    let fit = size_from z c.unsigned_abs-size.result ws c.divide-leftover.new.remainders (length ws - 0) i c.get.result c.divide-leftover.result c.extra_unit-extra.result
-    c.unsigned_abs-size.ensures.value (c.get.ensures ∙ total) (omega arith) c.loop-i-test.true c.divide-leftover.ensures.noted c.divide-leftover.ensures.units c.extra_unit-extra.ensures in
-    let value : c.with_sign.result ≡ part z ws i = c.with_sign.ensures ∙ ap (with_sign z) fit in
-    let wrote : to_z w64 (of_z w64 c.with_sign.result) ≡ part z ws i = to_z-of_z w64 c.with_sign.result (record { sfits = c.with_sign.type_inv }) ∙ value in
-    ap₂ (λ ps v. set ps i v) c.loop-i.invariant wrote ∙ written_more (part z ws) i c.args.parts.now (omega arith)
+    let i = c.loop-claim.claim-index in
+    let fit = units_are a ws c.claims_of-claims.result c.claims_of-claims.ensures c.requires.limits.0 i c.leftover-leftover.result none c.loop-claim-test.true c.leftover-leftover.ensures in
+    let value : c.part_of.result ≡ part z ws i = c.part_of.ensures ∙ ap (with_sign z) (fit ∙ ap (λ y. size y ws i) c.unsigned_abs-size.ensures.value) in
+    let wrote : to_z w64 (of_z w64 c.part_of.result) ≡ part z ws i = to_z-of_z w64 c.part_of.result (record { sfits = c.part_of.type_inv }) ∙ value in
+    ap₂ (λ ps v. set ps (get_or (take (length ws) c.claims_of-claims.result) i none).index v) c.loop-claim.invariant wrote
+    ∙ ap (λ k. set (written (part z ws) i c.args.parts.now) k (part z ws i)) (index_is c)
+    ∙ written_more (part z ws) i c.args.parts.now (inside_parts c)
+
+pub returns-clause-answer : goal.returns-clause-answer
+returns-clause-answer c = unshared_none c.args.amount c.args.weights.now (some_total c.args.weights.now c.total_of.result c.in-Some.total.value c.total_of.ensures c.in-Some.ensures.value c.in-Some.total.positive)
