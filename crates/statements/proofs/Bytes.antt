@@ -1,8 +1,9 @@
 -- The bytes of an amount make the amount again.
-use Rattle.std.proofs.Common.{◌≡◌, ℕ, zero, suc, ◌+◌, ◌*◌, ◌/◌, ◌%◌, ◌^◌, ◌<◌, List, [], ◌∷◌, ◌++◌, length, get_or, take, drop, ℤ, refl, ap, ◌∙◌, add-zero, arith, w64, SFits, to_z, of_z}
+use Rattle.std.proofs.Common.{◌≡◌, ℕ, zero, suc, ◌+◌, ◌*◌, ◌/◌, ◌%◌, ◌^◌, ◌<◌, List, [], ◌∷◌, ◌++◌, length, get_or, take, drop, ℤ, pos, sym, refl, ap, ◌∙◌, add-zero, arith, w64, SFits, to_z, of_z}
 use native.Mathlib.Nat.{div-div-eq-div-mul, pow-succ'}
 use mir.Facts.{Fits-of_z}
 use Rattle.std.proofs.lemmas.List.{take_at, drop_all, drop-drop, get_or-drop}
+use Rattle.std.proofs.lemmas.List.FromFn.{fill_by_all}
 use Rattle.std.proofs.lemmas.Int.{to_z-of_z}
 use Rattle.statements.specs.Amounts.{low_bytes, number_of, amount_bytes}
 use Rattle.statements.specs.declared.statement.AreaAmounts.{AreaAmounts}
@@ -58,3 +59,7 @@ amount_first z rest fits =
 pub length_area_bytes : (a : AreaAmounts) → length (area_bytes a) ≡ 64
 unfolding area_bytes
 length_area_bytes a = length_joined amount_bytes 8 length_amount_bytes (amounts_of a)
+
+-- a list of eight amounts, written out
+pub eight_amounts : (xs : List ℤ) → length xs ≡ 8 → get_or xs 0 (pos 0) ∷ get_or xs 1 (pos 0) ∷ get_or xs 2 (pos 0) ∷ get_or xs 3 (pos 0) ∷ get_or xs 4 (pos 0) ∷ get_or xs 5 (pos 0) ∷ get_or xs 6 (pos 0) ∷ get_or xs 7 (pos 0) ∷ [] ≡ xs
+eight_amounts xs long = sym (fill_by_all (λ i. get_or xs i (pos 0)) xs 8 (pos 0) long (λ k h. refl))

@@ -19,11 +19,11 @@ module _ (s : Statement) (twenty : length s.areas ≡ areas) where
   length_statement_bytes = ap suc (length-append (flat_map area_bytes s.areas) (amount_bytes s.cost) ∙ omega (arith, length_areas, length_amount_bytes s.cost))
 
   -- `first` is the tail with the account written, `second` with the areas too
-  pub parts_written : (entry first areas_last second cost_last : List ℕ) → first ≡ s.account ∷ drop 1 entry → areas_last ≡ flat_map area_bytes s.areas ++ drop (64 * length s.areas) (take (length first - 1) (drop 1 first)) → second ≡ put_mid 1 (length first - 1) first areas_last → cost_last ≡ amount_bytes s.cost ++ drop 8 (take (length second - 1281) (drop 1281 second)) → put_mid 1281 (length second - 1281) second cost_last ≡ statement_bytes s ++ drop statement_size entry
+  pub parts_written : (entry first areas_last second cost_last : List ℕ) → first ≡ s.account ∷ drop 1 entry → areas_last ≡ flat_map area_bytes s.areas ++ drop 1280 (take (length first - 1) (drop 1 first)) → second ≡ put_mid 1 (length first - 1) first areas_last → cost_last ≡ amount_bytes s.cost ++ drop 8 (take (length second - 1281) (drop 1281 second)) → put_mid 1281 (length second - 1281) second cost_last ≡ statement_bytes s ++ drop statement_size entry
   unfolding statement_bytes
   parts_written entry first areas_last second cost_last first_is areas_is second_is cost_is =
       let all = flat_map area_bytes s.areas in
-      let with_areas : second ≡ (s.account ∷ all) ++ drop (64 * length s.areas) (drop 1 entry) = second_is ∙ put_after 1 (64 * length s.areas) first (s.account ∷ []) (drop 1 entry) all areas_last first_is refl areas_is in
-      let rest : drop 8 (drop (64 * length s.areas) (drop 1 entry)) ≡ drop statement_size entry = ap (λ n. drop 8 (drop (64 * n) (drop 1 entry))) twenty ∙ ap (drop 8) (drop-drop 1280 1 entry) ∙ drop-drop 8 1281 entry in
-      put_after 1281 8 second (s.account ∷ all) (drop (64 * length s.areas) (drop 1 entry)) (amount_bytes s.cost) cost_last with_areas (ap suc length_areas) cost_is
+      let with_areas : second ≡ (s.account ∷ all) ++ drop 1280 (drop 1 entry) = second_is ∙ put_after 1 1280 first (s.account ∷ []) (drop 1 entry) all areas_last first_is refl areas_is in
+      let rest : drop 8 (drop 1280 (drop 1 entry)) ≡ drop statement_size entry = ap (drop 8) (drop-drop 1280 1 entry) ∙ drop-drop 8 1281 entry in
+      put_after 1281 8 second (s.account ∷ all) (drop 1280 (drop 1 entry)) (amount_bytes s.cost) cost_last with_areas (ap suc length_areas) cost_is
       ∙ ap (λ (ys : List ℕ). (s.account ∷ (all ++ amount_bytes s.cost)) ++ ys) rest

@@ -37,8 +37,9 @@ impl Fault for ReadStatementFault {
 
     fn refusal(&self) -> Refusal {
         match self {
-            ReadStatementFault::Incomplete => Refusal::new(24, 0),
-            ReadStatementFault::NoSuchAccount => Refusal::new(24, 0),
+            ReadStatementFault::Incomplete | ReadStatementFault::NoSuchAccount => {
+                Refusal::new(24, 0)
+            }
         }
     }
 }

@@ -1,5 +1,5 @@
 // Writing a statement into a lent buffer. A tail is what is left of the buffer from some place on.
-ghost use Rattle.std.specs.Prelude.{◌≡◌, ◌*◌, ◌≤◌, false, ◌∷◌, ◌++◌, length, drop, is_ok, Ok, OnOk};
+ghost use Rattle.std.specs.Prelude.{◌≡◌, ◌≤◌, false, ◌∷◌, ◌++◌, map, length, drop, is_ok, Ok, OnOk};
 ghost use Rattle.std.specs.List.{flat_map, AllByRecursion};
 ghost use Rattle.statements.specs.Amounts.{amount_bytes};
 ghost use Rattle.statements.specs.Layout.{amounts_of, area_bytes, statement_bytes, statement_size};
@@ -8,64 +8,34 @@ ghost use Rattle.statements.specs.Fits.{AreaFits, StatementFits};
 
 use crate::fault::StatementFault;
 use crate::statement::{
-    AMOUNT_SIZE, AREA_AMOUNTS, AREA_SIZE, AREAS_OFFSET, AreaAmounts, COST_OFFSET, Statement,
-    has_room,
+    AMOUNT_SIZE, AREA_AMOUNTS, AREA_COUNT, AREAS_OFFSET, AREAS_SIZE, AreaAmounts, COST_OFFSET,
+    Statement, has_room,
 };
 use amounts::account_exists;
 
-// Writes the amount into the first 8 bytes of the tail.
-fn write_amount(tail: &mut [u8], amount: i64)
-    requires { 8 ≤ length tail.old }
-    ensures { tail.new ≡ amount_bytes amount ++ drop 8 tail.old }
+// The bytes of the amount.
+fn bytes_of(amount: i64) -> [u8; AMOUNT_SIZE]
+    ensures { result ≡ amount_bytes amount }
 {
-    tail[0..AMOUNT_SIZE].copy_from_slice(&amount.to_le_bytes());
+    amount.to_le_bytes()
 }
 
-// Writes the amounts one after another, from the front of the tail on.
-fn write_amounts(tail: &mut [u8], amounts: &[i64])
-    requires { 8 * length amounts.now ≤ length tail.old }
-    ensures { tail.new ≡ flat_map amount_bytes amounts.now ++ drop (8 * length amounts.now) tail.old }
+// The bytes of each amount of the area.
+fn area_bytes_of(area: AreaAmounts) -> [[u8; AMOUNT_SIZE]; AREA_AMOUNTS]
+    ensures bytes { result ≡ map amount_bytes (amounts_of area) }
+    ensures fits { AreaFits area }
 {
-    for (i, amount) in amounts.iter().enumerate() {
-        write_amount(&mut tail[AMOUNT_SIZE * i..], *amount);
-    }
-}
-
-// The amounts of the area, in the order of a statement. Each fits 64 bits by its type, which reading back rests on.
-fn amounts_of(area: &AreaAmounts) -> [i64; AREA_AMOUNTS]
-    ensures amounts { result ≡ amounts_of area.now }
-    ensures fits { AreaFits area.now }
-{
-    [
-        area.metered,
-        area.modelled,
-        area.energy,
-        area.delivery,
-        area.volume,
-        area.volume_energy,
-        area.volume_delivery,
-        area.cost,
-    ]
-}
-
-// Writes the area into the first 64 bytes of the tail.
-fn write_area(tail: &mut [u8], area: &AreaAmounts)
-    requires { 64 ≤ length tail.old }
-    ensures after { tail.new ≡ area_bytes area.now ++ drop 64 tail.old }
-    ensures fits { AreaFits area.now }
-{
-    write_amounts(tail, &amounts_of(area));
+    <[i64; AREA_AMOUNTS]>::from(area).map(bytes_of)
 }
 
 // Writes the areas one after another, from the front of the tail on.
-fn write_areas(tail: &mut [u8], areas: &[AreaAmounts])
-    requires { 64 * length areas.now ≤ length tail.old }
-    ensures after { tail.new ≡ flat_map area_bytes areas.now ++ drop (64 * length areas.now) tail.old }
+fn write_areas(tail: &mut [u8], areas: &[AreaAmounts; AREA_COUNT])
+    requires { 1280 ≤ length tail.old }
+    ensures after { tail.new ≡ flat_map area_bytes areas.now ++ drop 1280 tail.old }
     ensures fits { AllByRecursion AreaFits areas.now }
 {
-    for (i, area) in areas.iter().enumerate() {
-        write_area(&mut tail[AREA_SIZE * i..], area);
-    }
+    let bytes = areas.map(area_bytes_of);
+    tail[0..AREAS_SIZE].copy_from_slice(bytes.as_flattened().as_flattened());
 }
 
 // Writes the account, which heads a statement, into the first byte of the tail.
@@ -74,6 +44,14 @@ fn write_account(tail: &mut [u8], account: u8)
     ensures { tail.new ≡ account ∷ drop 1 tail.old }
 {
     tail[0] = account;
+}
+
+// Writes the amount into the first 8 bytes of the tail.
+fn write_amount(tail: &mut [u8], amount: i64)
+    requires { 8 ≤ length tail.old }
+    ensures { tail.new ≡ amount_bytes amount ++ drop 8 tail.old }
+{
+    tail[0..AMOUNT_SIZE].copy_from_slice(&bytes_of(amount));
 }
 
 // Writes account, areas and energy cost adjustment, each into the tail that begins at its offset.

@@ -1,29 +1,24 @@
--- Each area goes behind those before it.
-use Rattle.std.proofs.Common.{◌≤◌, length, arith}
-use Rattle.std.proofs.lemmas.List.{take_all}
-use Rattle.std.proofs.ByRecursion.{All-more}
-use Rattle.statements.specs.Layout.{area_bytes}
+-- The bytes of the areas follow one another.
+use Rattle.std.proofs.Common.{◌≡◌, ◌++◌, [], map, drop, ap, ◌∙◌, rules}
+use Rattle.std.specs.List.{flat_map}
+use Rattle.statements.specs.Amounts.{amount_bytes}
+use Rattle.statements.specs.Layout.{amounts_of, area_at}
 use Rattle.statements.specs.Fits.{AreaFits}
-use Rattle.statements.proofs.Bytes.{length_area_bytes}
-use Rattle.statements.proofs.Tails.{written_more, written_all}
+use Rattle.statements.proofs.Joined.{map_each, joined_areas, all_each}
 use Rattle.statements.proofs.writing.write_areas.Goals as goal
-
-pub loop-i-preserved : goal.loop-i-preserved
-loop-i-preserved c =
-    let areas = c.args.areas.now in
-    let i = c.loop-i.i in (
-      written_more area_bytes 64 length_area_bytes areas c.args.tail.now c.loop-i.tail c.write_area.new.tail i _
-          c.loop-i-test.true
-          c.loop-i.invariant.0
-          c.write_area.ensures.after,
-      All-more AreaFits areas i _ c.loop-i-test.true c.loop-i.invariant.1 c.write_area.ensures.fits,
-    )
 
 pub returns : goal.returns
 returns c =
-    let areas = c.args.areas.now in
-    let end : length areas ≤ c.loop-i.i = c.loop-i-test.false in
+    let xs = c.args.areas.now in
+    let ys = c.map-bytes.result in
+    let none = area_at [] 0 in
+    let mapped : ys ≡ map (λ a. map amount_bytes (amounts_of a)) xs = map_each (λ a. map amount_bytes (amounts_of a)) xs ys 20 none [] c.told-areas c.map-bytes.ensures.items.long (λ k less.
+    let h = c.map-bytes.ensures.items.at k none [] less in
+    search rules) in
+    let flat = c.as_flattened-2.ensures.value ∙ ap (flat_map (λ x. x)) (c.as_flattened.ensures.value ∙ ap (flat_map (λ x. x)) mapped) ∙ joined_areas xs in
     record {
-      after = written_all area_bytes 64 length_area_bytes areas c.args.tail.now c.loop-i.tail c.loop-i.i (omega arith) c.loop-i.invariant.0;
-      fits = rw (take_all c.loop-i.i areas end) at c.loop-i.invariant.1;
+      after = ap (λ ys. ys ++ drop 1280 c.args.tail.now) (c.copy_from_slice.ensures.after ∙ flat);
+      fits = all_each AreaFits xs 20 none c.told-areas (λ k less.
+          let h = c.map-bytes.ensures.items.at k none [] less in
+          search rules);
     }
