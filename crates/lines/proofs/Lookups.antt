@@ -1,10 +1,13 @@
 -- Laws of lines in the order of their keys. Assumes nothing.
-use Rattle.std.proofs.Common.{◌≡◌, ℕ, zero, suc, ◌+◌, ◌<◌, ◌≤◌, Bool, true, false, cond, eqb, ltb, List, [], ◌∷◌, length, get_or, take, drop, set, is_some, Some, None, sym, refl, ap, ◌∙◌, subst, inl, inr, le_of_suc-le-suc, arith}
+use Rattle.std.proofs.Common.{◌≡◌, ℕ, zero, suc, ◌+◌, ◌<◌, ◌≤◌, Bool, true, false, cond, eqb, ltb, leb, List, [], ◌∷◌, length, get_or, take, drop, set, is_some, Some, None, Option, sym, refl, ap, ◌∙◌, subst, inl, inr, le_of_suc-le-suc, arith}
 use Rattle.std.proofs.ByRecursion.{All-append, All-take, All-drop, All-set, All-weaker, all-has, All-get_or, has_append_left, has_append_right, has_push}
 use Rattle.std.proofs.lemmas.List.{at_drop_more, at_drop_all}
 use Rattle.std.proofs.lemmas.Bool.{eq-eqb, ltb-true, ltb-false, lt-ltb, le-ltb, eqb-true, cond-true, cond-false, cond_both, cases_order}
 use Rattle.std.proofs.lemmas.Bool.Decides.{nat_tests}
-use Rattle.std.specs.List.{insert, ContainsAt as Has, AllByRecursion}
+use Rattle.std.proofs.lemmas.List.Sums.{prefix_len-le-length}
+use Rattle.std.specs.Bool.{then_some}
+use Rattle.std.specs.Option.{unwrap_or, option_and_then}
+use Rattle.std.specs.List.{insert, find, position, position_or_len, ContainsAt as Has, AllByRecursion}
 use Rattle.lines.specs.Lookups.{Rising, scan, lookup, insertion_point, with_line, with_replaced}
 use Rattle.lines.specs.Laws.{LineOf, OneLinePerKey}
 
@@ -31,28 +34,36 @@ module _ {L : Type 0} (comes_before has : L → Bool) where
 
 module _ {L : Type 0} (key : L → ℕ) where
   -- ---- the insertion point
-  pub point_more : (k : ℕ) (xs : List L) (i : ℕ) (x : L) → i < length xs → x ≡ get_or xs i x → insertion_point key k (drop i xs) ≡ cond (ltb (key x) k) (suc (insertion_point key k (drop (i + 1) xs))) 0
-  point_more k xs i x h e = at_drop_more (insertion_point key k) xs i x h ∙ ap (λ y. cond (ltb (key y) k) (suc (insertion_point key k (drop (i + 1) xs))) 0) (sym e)
+  -- is the place of the first line whose key is not below k
+  pub point_is : (k : ℕ) (xs : List L) → position_or_len (λ x. leb k (key x)) xs ≡ insertion_point key k xs
+  point_is k [] = refl
+  point_is k (x ∷ xs) = let rest = point_is k xs in grind (arith, nat_tests)
 
-  pub point_all : (k : ℕ) (xs : List L) (i : ℕ) → length xs ≤ i → insertion_point key k (drop i xs) ≡ 0
-  point_all k xs i h = at_drop_all (insertion_point key k) xs i h
+  -- and, of a line and more, one more than that of the rest, or none
+  at_point : (k : ℕ) (x : L) (xs : List L) (P : ℕ → Type 0) → (ltb (key x) k ≡ true → P (suc (insertion_point key k xs))) → (ltb (key x) k ≡ false → P 0) → P (insertion_point key k (x ∷ xs))
+  at_point k x xs P below not_below =
+      let p = insertion_point key k xs in
+      let more : suc p ≡ 1 + p = omega arith in
+      cond_both (ltb (key x) k) (1 + p) 0 P (λ t. subst P more (below t)) not_below
 
-  -- what is found is the line at the insertion point, if it has the key
-  pub lookup_at : (k : ℕ) (xs : List L) (x : L) → insertion_point key k xs < length xs → x ≡ get_or xs (insertion_point key k xs) x → lookup key k xs ≡ cond (eqb (key x) k) (Some x) None
-  lookup_at k [] x h e = absurd (omega arith)
-  lookup_at k (y ∷ ys) x h e =
-      let p = insertion_point key k ys in
-      elim (ltb (key y) k) as (λ b. cond b (suc p) 0 < suc (length ys) → x ≡ get_or (y ∷ ys) (cond b (suc p) 0) x → cond b (lookup key k ys) (cond (eqb (key y) k) (Some y) None) ≡ cond (eqb (key x) k) (Some x) None) [
-        | true ↦ λ h e. lookup_at k ys x (le_of_suc-le-suc h) e
-        | false ↦ λ h e. ap (λ z. cond (eqb (key z) k) (Some z) None) (sym e)
-      ] h e
+  -- what `position` answers, or the length
+  pub point_or_len : (k : ℕ) (xs : List L) (o : Option ℕ) → o ≡ position (λ x. leb k (key x)) xs → unwrap_or o (length xs) ≡ insertion_point key k xs
+  point_or_len k xs o e =
+      let is = point_is k xs in
+      let within = prefix_len-le-length (λ x. ltb (key x) k) xs in
+      grind (arith, nat_tests)
+
+  -- what is found is the first line whose key is not below k, if it has the key k
+  pub found_first : (k : ℕ) (xs : List L) → option_and_then (λ x. then_some (eqb (key x) k) x) (find (λ x. leb k (key x)) xs) ≡ lookup key k xs
+  found_first k [] = refl
+  found_first k (x ∷ xs) = let rest = found_first k xs in grind (arith, nat_tests)
 
   pub lookup_past : (k : ℕ) (xs : List L) → length xs ≤ insertion_point key k xs → lookup key k xs ≡ None
   lookup_past k [] h = refl
   lookup_past k (y ∷ ys) h =
       let p = insertion_point key k ys in
-      elim (ltb (key y) k) as (λ b. suc (length ys) ≤ cond b (suc p) 0 → cond b (lookup key k ys) (cond (eqb (key y) k) (Some y) None) ≡ None) [
-        | true ↦ λ h. lookup_past k ys (le_of_suc-le-suc h)
+      elim (ltb (key y) k) as (λ b. suc (length ys) ≤ cond b (1 + p) 0 → cond b (lookup key k ys) (cond (eqb (key y) k) (Some y) None) ≡ None) [
+        | true ↦ λ h. lookup_past k ys (omega arith)
         | false ↦ λ h. absurd (omega arith)
       ] h
 
@@ -111,7 +122,7 @@ module _ {L : Type 0} (key : L → ℕ) where
   pub rising_with : (line : L) (xs : List L) → lookup key (key line) xs ≡ None → Rising key xs → Rising key (with_line key line xs)
   rising_with line [] none up = (tt, tt)
   rising_with line (x ∷ xs) none up =
-      cond_both (ltb (key x) (key line)) (suc (insertion_point key (key line) xs)) 0 (λ p. Rising key (insert (x ∷ xs) p line))
+      at_point (key line) x xs (λ p. Rising key (insert (x ∷ xs) p line))
       (λ t. (
         all_inserted (λ y. key x < key y) xs _ line up.0 (ltb-true _ _ t),
         rising_with line xs (sym (cond-true (ltb (key x) (key line)) (lookup key (key line) xs) _ t) ∙ none) up.1,
@@ -125,7 +136,7 @@ module _ {L : Type 0} (key : L → ℕ) where
   pub lookup_with : (k : ℕ) (line : L) (xs : List L) → lookup key k (with_line key line xs) ≡ cond (eqb (key line) k) (Some line) (lookup key k xs)
   lookup_with k line [] = grind (arith, nat_tests)
   lookup_with k line (x ∷ xs) =
-      cond_both (ltb (key x) (key line)) (suc (insertion_point key (key line) xs)) 0 (λ p. lookup key k (insert (x ∷ xs) p line) ≡ cond (eqb (key line) k) (Some line) (lookup key k (x ∷ xs)))
+      at_point (key line) x xs (λ p. lookup key k (insert (x ∷ xs) p line) ≡ cond (eqb (key line) k) (Some line) (lookup key k (x ∷ xs)))
       (λ t. let less = ltb-true _ _ t in ap (λ o. cond (ltb (key x) k) o (cond (eqb (key x) k) (Some x) None)) (lookup_with k line xs) ∙ grind (arith, nat_tests))
       (λ t. let less = ltb-false _ _ t in grind (arith, nat_tests))
 
@@ -140,7 +151,7 @@ module _ {L : Type 0} (key : L → ℕ) where
   pub rising_replaced : (line : L) (xs : List L) → is_some (lookup key (key line) xs) ≡ true → Rising key xs → Rising key (with_replaced key line xs)
   rising_replaced line [] there up = tt
   rising_replaced line (x ∷ xs) there up =
-      cond_both (ltb (key x) (key line)) (suc (insertion_point key (key line) xs)) 0 (λ p. Rising key (set (x ∷ xs) p line))
+      at_point (key line) x xs (λ p. Rising key (set (x ∷ xs) p line))
       (λ t. (
         All-set (λ y. key x < key y) xs _ line (ltb-true _ _ t) up.0,
         rising_replaced line xs (ap is_some (sym (cond-true (ltb (key x) (key line)) (lookup key (key line) xs) _ t)) ∙ there) up.1,
@@ -150,7 +161,7 @@ module _ {L : Type 0} (key : L → ℕ) where
   pub lookup_replaced : (k : ℕ) (line : L) (xs : List L) → is_some (lookup key (key line) xs) ≡ true → lookup key k (with_replaced key line xs) ≡ cond (eqb (key line) k) (Some line) (lookup key k xs)
   lookup_replaced k line [] there = let y : ◌≡◌ {A = ℕ} 0 1 = cc in absurd (omega arith)
   lookup_replaced k line (x ∷ xs) there =
-      cond_both (ltb (key x) (key line)) (suc (insertion_point key (key line) xs)) 0 (λ p. lookup key k (set (x ∷ xs) p line) ≡ cond (eqb (key line) k) (Some line) (lookup key k (x ∷ xs)))
+      at_point (key line) x xs (λ p. lookup key k (set (x ∷ xs) p line) ≡ cond (eqb (key line) k) (Some line) (lookup key k (x ∷ xs)))
       (λ t.
       let less = ltb-true _ _ t in
       let rest = ap is_some (sym (cond-true (ltb (key x) (key line)) (lookup key (key line) xs) _ t)) ∙ there in
