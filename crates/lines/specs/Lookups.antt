@@ -1,6 +1,6 @@
 -- Lines in the order of their keys.
 use Rattle.std.specs.Prelude.{ℕ, ◌<◌, Bool, List, [], ◌∷◌, if◌then◌else◌, Some, None, Option, ◌==◌, nat_lt, slice_set}
-use Rattle.std.specs.List.{insert, prefix_len, AllByRecursion}
+use Rattle.std.specs.List.{insert, prefix_len, AllPairs}
 
 -- the line that has what is wanted. The lines are read from the first, as far as the first that does not come before it
 abbrev pub scan : {L : Type 0} → (L → Bool) → (L → Bool) → List L → Option L
@@ -10,8 +10,7 @@ scan comes_before has (x ∷ xs) = if comes_before x then scan comes_before has 
 module _ {L : Type 0} (key : L → ℕ) where
   -- each line's key is below those of the lines after it
   abbrev pub Rising : List L → Type 0
-  Rising [] = Unit {0}
-  Rising (x ∷ xs) = AllByRecursion (λ y. key x < key y) xs × Rising xs
+  Rising xs = AllPairs (λ x y. key x < key y) xs
 
   -- the line that has the key k
   abbrev pub lookup : ℕ → List L → Option L
