@@ -1,7 +1,7 @@
 -- What books answer is what their tables have. Assumes nothing.
 use Rattle.std.proofs.Common.{◌≡◌, ℕ, false, ◌&&◌, List, Some, None, Option, refl, ap, arith}
 use Rattle.std.specs.Option.{option_map, option_flatten}
-use Rattle.std.specs.List.{ContainsAt as Has}
+use Rattle.std.specs.List.{Contains}
 use Rattle.std.proofs.lemmas.Bool.Decides.{nat_tests}
 use Rattle.amounts.specs.Ranges.{account_exists, area_exists, band_exists}
 use Rattle.lines.specs.Keys.{Fit, tariff_fields, infill_fields, category_fields, tariff_widths, infill_widths, category_widths}
@@ -20,8 +20,8 @@ use Rattle.books.proofs.Bounds.{tariff_bounded, infill_bounded, rate_bounded}
 
 -- ---- any table
 module _ {L V : Type 0} (fields : L → List ℕ) (ws : List ℕ) (value : L → V) (fit : (l : L) → Fit ws (fields l)) (lines : List L) where
-  pub from_lines : (fs : List ℕ) (v : V) → from_table fields value lines fs ≡ Some v → (l : L) × Has lines l × (fields l ≡ fs) × (value l ≡ v)
-  from_lines fs v = elim (line_with fields fs lines) as (λ o. ((l : L) → o ≡ Some l → Has lines l × (fields l ≡ fs)) → option_map value o ≡ Some v → (l : L) × Has lines l × (fields l ≡ fs) × (value l ≡ v)) [
+  pub from_lines : (fs : List ℕ) (v : V) → from_table fields value lines fs ≡ Some v → (l : L) × Contains lines l × (fields l ≡ fs) × (value l ≡ v)
+  from_lines fs v = elim (line_with fields fs lines) as (λ o. ((l : L) → o ≡ Some l → Contains lines l × (fields l ≡ fs)) → option_map value o ≡ Some v → (l : L) × Contains lines l × (fields l ≡ fs) × (value l ≡ v)) [
     | None ↦ λ _ e. (let y : ◌≡◌ {A = ℕ} 0 1 = cc in absurd (omega arith))
     | Some l ↦ λ one e. (l, (one l refl).0, (one l refl).1, cc)
   ] (line_with_one_of fields fs lines)

@@ -1,7 +1,7 @@
 -- What each infill book means.
 use Rattle.std.specs.Prelude.{◌≡◌, ℕ, ◌≤◌, Bool, true, false, cond, ◌&&◌, List, IfSome, Some, None, Option, ◌≢◌}
 use Rattle.std.specs.Option.{option_map, option_flatten}
-use Rattle.std.specs.List.{ContainsAt as Has}
+use Rattle.std.specs.List.{Contains}
 use Rattle.amounts.specs.Ranges.{area_exists, band_exists}
 use Rattle.lines.specs.Keys.{infill_fields, infill_widths, category_widths}
 use Rattle.lines.specs.Tables.{fields_of_infill, fields_of_category, category_line, RisingTable}
@@ -49,9 +49,9 @@ rate_of lines speed kind category area band = option_flatten (option_map (rate_a
 
 pub record RateTable (lines : List CategoryLine) (speed : ℕ) : Type 0 where
   -- a category is answered from its line, if keys rise
-  pub each_line : RisingTable fields_of_category category_widths lines → (l : CategoryLine) → Has lines l → (kind : MeteredKind) (area band : ℕ) → rate_of lines speed kind l.category area band ≡ rate_answer speed kind l
+  pub each_line : RisingTable fields_of_category category_widths lines → (l : CategoryLine) → Contains lines l → (kind : MeteredKind) (area band : ℕ) → rate_of lines speed kind l.category area band ≡ rate_answer speed kind l
   -- a category without a line has no values
-  pub unknown : (category : ℕ) → ((l : CategoryLine) → Has lines l → l.category ≢ category) → (kind : MeteredKind) (area band : ℕ) → rate_of lines speed kind category area band ≡ None
+  pub unknown : (category : ℕ) → ((l : CategoryLine) → Contains lines l → l.category ≢ category) → (kind : MeteredKind) (area band : ℕ) → rate_of lines speed kind category area band ≡ None
   -- nor has a non-journey
   pub non_journey : (category area band : ℕ) → rate_of lines speed NonJourney category area band ≡ None
   pub in_range : speed ≤ max_speed → (kind : MeteredKind) (category area band : ℕ) → IfSome (rate_of lines speed kind category area band) ValuesInRange

@@ -17,7 +17,7 @@ const MAX_EXPECTED_COST: u64 = 1_000_000_000_000;
 // Thousandths in a penny.
 const THOUSANDTHS: u64 = 1_000;
 
-#[derive(Clone, Copy)]
+#[derive(Clone, Copy, PartialEq, Eq, Debug)]
 pub struct BlendedTariff {
     energy: u32,
     delivery: u32,
@@ -34,17 +34,13 @@ impl BlendedTariff {
         if !price_in_range(energy) || expected_cost > MAX_EXPECTED_COST {
             return Err(FigureFault::OutOfRange);
         }
-        let Some(kwh) = Divisor::new(expected_kwh) else {
-            return Err(FigureFault::OutOfRange);
-        };
-        let delivery = rounded_quotient(THOUSANDTHS * expected_cost, kwh);
-        if delivery > MAX_PRICE as u64 {
+        let kwh = Divisor::new(expected_kwh).ok_or(FigureFault::OutOfRange)?;
+        let delivery = u32::try_from(rounded_quotient(THOUSANDTHS * expected_cost, kwh))
+            .map_err(|_| FigureFault::OutOfRange)?;
+        if delivery > MAX_PRICE {
             return Err(FigureFault::OutOfRange);
         }
-        Ok(BlendedTariff {
-            energy,
-            delivery: delivery as u32,
-        })
+        Ok(BlendedTariff { energy, delivery })
     }
 }
 

@@ -22,17 +22,11 @@ pub struct RateInfill<'t, 'm> {
 fn journey_fits(kind: MeteredKind, unit: UnitKind) -> bool
     ensures { result ≡ journey_fits kind unit }
 {
-    match kind {
-        MeteredKind::MultipleUnitJourney => match unit {
-            UnitKind::MultipleUnit => true,
-            UnitKind::Hauled => false,
-        },
-        MeteredKind::HauledJourney => match unit {
-            UnitKind::MultipleUnit => false,
-            UnitKind::Hauled => true,
-        },
-        MeteredKind::NonJourney => false,
-    }
+    matches!(
+        (kind, unit),
+        (MeteredKind::MultipleUnitJourney, UnitKind::MultipleUnit)
+            | (MeteredKind::HauledJourney, UnitKind::Hauled)
+    )
 }
 
 // What a slot at that speed consumes.

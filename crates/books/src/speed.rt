@@ -5,7 +5,7 @@ ghost use Rattle.books.specs.declared.fault.FigureFault.TheVariants.{OutOfRange}
 
 use crate::fault::FigureFault;
 
-#[derive(Clone, Copy)]
+#[derive(Clone, Copy, PartialEq, Eq, Debug)]
 pub struct Speed {
     value: u16,
     ghost in_range: { value ≤ max_speed },

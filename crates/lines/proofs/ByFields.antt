@@ -1,7 +1,7 @@
 -- The line with given key fields is the one with their key, over any widths. Assumes nothing.
 use Rattle.std.proofs.Common.{◌≡◌, ℕ, true, cond, eqb, ltb, List, [], ◌∷◌, Some, None, Option, sym, refl, ap, ◌∙◌, ap₂}
 use Rattle.std.proofs.lemmas.Bool.{and_parts, eqb-true}
-use Rattle.std.specs.List.{ContainsAt as Has}
+use Rattle.std.specs.List.{Contains}
 use Rattle.lines.specs.Keys.{key_of, Fit, before, same}
 use Rattle.lines.specs.Lookups.{Rising, lookup}
 use Rattle.lines.specs.Laws.{LineOf}
@@ -19,11 +19,11 @@ same_true (f ∷ fs) (g ∷ gs) e =
 
 -- ---- fields of any size
 module _ {L : Type 0} (fields : L → List ℕ) (fs : List ℕ) where
-  pub line_with_one_of : (xs : List L) (l : L) → line_with fields fs xs ≡ Some l → Has xs l × (fields l ≡ fs)
+  pub line_with_one_of : (xs : List L) (l : L) → line_with fields fs xs ≡ Some l → Contains xs l × (fields l ≡ fs)
   line_with_one_of xs l e = let h = scan_one_of (λ x. before (fields x) fs) (λ x. same (fields x) fs) xs l e in (h.0, same_true (fields l) fs h.1)
 
   -- fields that no line has
-  pub line_with_none : (xs : List L) → ((l : L) → Has xs l → fields l ≡ fs → ⊥) → line_with fields fs xs ≡ None
+  pub line_with_none : (xs : List L) → ((l : L) → Contains xs l → fields l ≡ fs → ⊥) → line_with fields fs xs ≡ None
   line_with_none xs lacks = scan_none (λ x. before (fields x) fs) (λ x. same (fields x) fs) xs (λ l h t. lacks l h (same_true (fields l) fs t))
 
 -- ---- fields that fit their widths

@@ -1,34 +1,14 @@
 -- What the calls of a list do, from what they read of its memory. Assumes nothing.
 use Rattle.std.proofs.Common.{◌≡◌, ℕ, ◌-◌, ◌<◌, ◌≤◌, min, Bool, true, false, cond, eqb, ltb, List, length, take, drop, is_some, Some, None, Ok, Option, sym, refl, ap, ◌∙◌, subst, ⊎_elim, arith}
-use Rattle.std.proofs.lemmas.List.{take_all, length-take}
+use Rattle.std.proofs.lemmas.List.{take_min, length-take}
 use Rattle.std.proofs.lemmas.Bool.{cases_lt, cond-true, cond-false, lt-ltb}
 use Rattle.lines.specs.Lookups.{Rising, lookup, insertion_point, with_line, with_replaced}
 use Rattle.lines.specs.Outcomes.{to_add, to_replace}
 use Rattle.lines.proofs.Lookups.{rising_with, rising_replaced, lookup_with, lookup_replaced, found_inside}
 
-module _ {L : Type 0} (xs : List L) (n : ℕ) where
-  -- a count that is cut to the memory
-  pub take_cut : (r : ℕ) → r ≡ min n (length xs) → take (r - 0) xs ≡ take n xs
-  take_cut r e =
-      ⊎_elim
-      (λ (h : length xs < n). take_all (r - 0) xs (omega arith) ∙ sym (take_all n xs (omega arith)))
-      (λ (h : n ≤ length xs). ap (λ m. take m xs) (let m : r - 0 ≡ n = omega arith in m))
-      (cases_lt (length xs) n)
-
-  -- the count of the lines that are in use
-  pub take_count : (r : ℕ) → r ≡ length (take n xs) → take r xs ≡ take n xs
-  take_count r e = let l = length-take n xs in ap (λ m. take m xs) (let m : r ≡ r - 0 = omega arith in m) ∙ take_cut r (e ∙ l)
-
-  pub drop_count : (r : ℕ) → r ≡ length (take n xs) → r < length xs → drop r xs ≡ drop n xs
-  drop_count r e h = let l = length-take n xs in ap (λ m. drop m xs) (let m : r ≡ n = omega arith in m)
-
--- ---- what is read of the lines us in use, by the key k of a line, is true of the contents xs and the line's own key
-module _ {L : Type 0} (key : L → ℕ) (line : L) (xs us : List L) (k : ℕ) (own : k ≡ key line) (used : us ≡ xs) where
-  pub found_in : (o : Option L) (t : Bool) → o ≡ lookup key k us → is_some o ≡ t → is_some (lookup key (key line) xs) ≡ t
-  found_in o t e h = ap (λ j. is_some (lookup key j xs)) (sym own) ∙ ap (λ ys. is_some (lookup key k ys)) (sym used) ∙ ap is_some (sym e) ∙ h
-
-  pub point_in : (p : ℕ) → p ≡ insertion_point key k us → p ≡ insertion_point key (key line) xs
-  point_in p e = e ∙ ap (λ j. insertion_point key j us) own ∙ ap (insertion_point key (key line)) used
+-- the lines in use, by their count
+pub take_count : {L : Type 0} (xs : List L) (n r : ℕ) → r ≡ length (take n xs) → take r xs ≡ take n xs
+take_count xs n r e = ap (λ m. take m xs) (e ∙ length-take n xs) ∙ take_min n xs
 
 not_there : {A : Type 0} (o : Option A) → is_some o ≡ false → o ≡ None
 not_there None e = refl

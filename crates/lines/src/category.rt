@@ -19,7 +19,7 @@ const MAX_RATE: u32 = 100_000;
 // The highest discount, in ten-thousandths.
 const MAX_DISCOUNT: u16 = 10_000;
 
-#[derive(Clone, Copy)]
+#[derive(Clone, Copy, PartialEq, Eq, Debug)]
 pub struct CategoryLine {
     category: u16,
     electricity: Electricity,
@@ -37,8 +37,7 @@ pub struct CategoryLine {
 fn fields_in_range(power_factor: u16, rate: u32, discount: u16) -> bool
     ensures { result ≡ category_in_range power_factor rate discount }
 {
-    MIN_POWER_FACTOR <= power_factor
-        && power_factor <= MAX_POWER_FACTOR
+    (MIN_POWER_FACTOR..=MAX_POWER_FACTOR).contains(&power_factor)
         && rate <= MAX_RATE
         && discount <= MAX_DISCOUNT
 }

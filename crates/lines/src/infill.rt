@@ -13,7 +13,7 @@ use amounts::{FIRST_BAND, area_exists, band_exists};
 // The highest value for a slot.
 const MAX_INFILL: u32 = 2_000_000;
 
-#[derive(Clone, Copy)]
+#[derive(Clone, Copy, PartialEq, Eq, Debug)]
 pub struct InfillLine {
     kind: MeteredKind,
     category: u16,

@@ -4,8 +4,8 @@ ghost use Rattle.lines.specs.Kinds.{electricity_number, kind_number};
 
 #[derive(Clone, Copy, PartialEq, Eq, Debug)]
 pub enum Electricity {
-    Ac,
-    Dc,
+    Ac = 1,
+    Dc = 2,
 }
 
 // What a train of a category is made of: a multiple unit, or coaches or wagons that locomotives haul.
@@ -17,19 +17,16 @@ pub enum UnitKind {
 
 #[derive(Clone, Copy, PartialEq, Eq, Debug)]
 pub enum MeteredKind {
-    MultipleUnitJourney,
-    HauledJourney,
-    NonJourney,
+    MultipleUnitJourney = 1,
+    HauledJourney = 2,
+    NonJourney = 3,
 }
 
 impl Electricity {
     pub fn number(self) -> u8
         ensures { result ≡ electricity_number self }
     {
-        match self {
-            Electricity::Ac => 1,
-            Electricity::Dc => 2,
-        }
+        self as u8
     }
 }
 
@@ -37,10 +34,6 @@ impl MeteredKind {
     pub fn number(self) -> u8
         ensures { result ≡ kind_number self }
     {
-        match self {
-            MeteredKind::MultipleUnitJourney => 1,
-            MeteredKind::HauledJourney => 2,
-            MeteredKind::NonJourney => 3,
-        }
+        self as u8
     }
 }

@@ -1,22 +1,26 @@
 // An ordered list: the memory that the caller lends, and how many lines of it are in use.
-ghost use Rattle.std.specs.Prelude.{◌≡◌, ℕ, false, ◌&&◌, [], length, drop, is_ok, if◌then◌else◌, Some, ◌==◌};
-ghost use Rattle.lines.specs.Contents.{contents, memory, spare};
-ghost use Rattle.lines.specs.Lookups.{Rising, lookup, with_line, with_replaced};
-ghost use Rattle.lines.specs.Outcomes.{to_add, to_replace};
-ghost use Rattle.lines.specs.Laws.{LineOf, OneLinePerKey};
+ghost use Rattle.std.specs.Prelude.{◌≤◌, length};
 
 use crate::fault::ListFault;
 use crate::line::Line;
 use crate::position::{insert, line_with_key, position};
 
-// The calls keep the keys rising, each once: nothing else is asked of the memory.
+// The calls keep the keys rising, each once. That is kept by their contracts and by no invariant: the memory may come with any
+// lines, and a list that is read has the answers of its contracts whatever it holds.
 #[derive(Drop)]
 pub struct OrderedList<'a, L> {
     lines: &'a mut [L],
     count: usize,
+    ghost fits: { count ≤ length lines.now },
 }
 
 impl<'a, L: Line> OrderedList<'a, L> {
+    ghost use Rattle.std.specs.Prelude.{◌≡◌, ℕ, false, ◌&&◌, [], drop, is_ok, if◌then◌else◌, Some, ◌==◌};
+    ghost use Rattle.lines.specs.Contents.{contents, memory, spare};
+    ghost use Rattle.lines.specs.Lookups.{Rising, lookup, with_line, with_replaced};
+    ghost use Rattle.lines.specs.Outcomes.{to_add, to_replace};
+    ghost use Rattle.lines.specs.Laws.{LineOf, OneLinePerKey};
+
     // An empty list over the memory.
     pub fn new(lines: &'a mut [L]) -> Self
         ensures empty { contents result ≡ [] }
@@ -27,12 +31,11 @@ impl<'a, L: Line> OrderedList<'a, L> {
         OrderedList { lines, count: 0 }
     }
 
-    // The lines in use. The count is never above the memory's length, and is cut to it since no invariant says so.
+    // The lines in use.
     fn used(&self) -> &[L]
         ensures { result.now ≡ contents self.now }
     {
-        let count = self.count.min(self.lines.len());
-        &self.lines[0..count]
+        &self.lines[..self.count]
     }
 
     // How many lines the list has.
@@ -63,7 +66,7 @@ impl<'a, L: Line> OrderedList<'a, L> {
         ensures lent { self.new.lines.ghost_name ≡ self.old.lines.ghost_name }
     {
         let key = line.key();
-        if line_with_key(self.used(), key).is_some() {
+        if self.find(key).is_some() {
             return Err(ListFault::KeyPresent);
         }
         let count = self.count();
@@ -88,7 +91,7 @@ impl<'a, L: Line> OrderedList<'a, L> {
         ensures lent { self.new.lines.ghost_name ≡ self.old.lines.ghost_name }
     {
         let key = line.key();
-        if line_with_key(self.used(), key).is_none() {
+        if self.find(key).is_none() {
             return Err(ListFault::KeyAbsent);
         }
         let at = position(self.used(), key);

@@ -13,7 +13,7 @@ use amounts::area_exists;
 // The highest loss, in ten-thousandths.
 const MAX_LOSS: u16 = 5_000;
 
-#[derive(Clone, Copy)]
+#[derive(Clone, Copy, PartialEq, Eq, Debug)]
 pub struct LossLine {
     area: u8,
     electricity: Electricity,

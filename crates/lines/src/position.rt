@@ -5,33 +5,27 @@ ghost use Rattle.lines.specs.Lookups.{insertion_point, lookup};
 
 use crate::line::Line;
 
-// How many lines come before the first whose key is not below the wanted one.
+// How many lines come before the first whose key is not below the wanted one. Every list has that answer, also one whose keys
+// do not rise; a binary search would need that they do, and the order of keys is kept by contracts and not by an invariant.
 pub(crate) fn position<L: Line>(lines: &[L], wanted: u64) -> usize
     ensures point { result ≡ insertion_point L.key wanted lines.now }
     ensures within { result ≤ length lines.now }
 {
-    for (i, line) in lines.iter().enumerate() {
-        if line.key() >= wanted {
-            return i;
-        }
-    }
-    lines.len()
+    lines
+        .iter()
+        .position(|line| line.key() >= wanted)
+        .unwrap_or(lines.len())
 }
 
 // The line that has the wanted key. The lines are read from the first, as far as the first whose key is not below it.
 pub(crate) fn line_with_key<L: Line>(lines: &[L], wanted: u64) -> Option<L>
     ensures { result ≡ lookup L.key wanted lines.now }
 {
-    let i = position(lines, wanted);
-    if i == lines.len() {
-        return None;
-    }
-    let line = lines[i];
-    if line.key() == wanted {
-        Some(line)
-    } else {
-        None
-    }
+    lines
+        .iter()
+        .find(|line| line.key() >= wanted)
+        .copied()
+        .filter(|line| line.key() == wanted)
 }
 
 // Puts the line at the position `to`, and moves the lines from there to the count up by one.
@@ -41,10 +35,6 @@ pub(crate) fn insert<L: Copy>(lines: &mut [L], count: usize, to: usize, line: L)
     ensures front { take (count + 1) lines.new ≡ insert (take count lines.old) to line }
     ensures past { drop (count + 1) lines.new ≡ drop 1 (drop count lines.old) }
 {
-    let mut at = count;
-    while at > to {
-        lines[at] = lines[at - 1];
-        at -= 1;
-    }
+    lines.copy_within(to..count, to + 1);
     lines[to] = line;
 }

@@ -1,4 +1,6 @@
 // Tables: the line that a list has for given key fields.
+// Each kind of line has key fields of its own, so each has its own call of `find`. One generic call over a trait would take them
+// as an associated type, with ghost members for the fields and their widths, and these four would still stand before it.
 ghost use Rattle.std.specs.Prelude.{◌≡◌};
 ghost use Rattle.lines.specs.Contents.{contents};
 ghost use Rattle.lines.specs.Keys.{category_widths, loss_widths, infill_widths, tariff_widths, category_fields, loss_fields, infill_fields, tariff_fields};

@@ -11,7 +11,7 @@ use amounts::{
     FIRST_BAND, INFRASTRUCTURE_MANAGER, account_exists, area_exists, band_exists, price_in_range,
 };
 
-#[derive(Clone, Copy)]
+#[derive(Clone, Copy, PartialEq, Eq, Debug)]
 pub struct TariffLine {
     account: u8,
     area: u8,

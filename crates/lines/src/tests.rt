@@ -36,9 +36,7 @@ fn the_line_last_put_is_found(rt: HostRuntime) -> Result<(), Fail> {
     list.add(LossLine::new(2, Electricity::Dc, 250)?)?;
     list.replace(LossLine::new(4, Electricity::Ac, 410)?)?;
     assert_eq!(rt; list.count(), 2);
-    let Some(found) = find_loss(&list, 4, Electricity::Ac) else {
-        return Err(Fail::new("no loss line"));
-    };
+    let found = find_loss(&list, 4, Electricity::Ac).ok_or(Fail::new("no loss line"))?;
     assert_eq!(rt; found.loss(), 410);
     Ok(())
 }
