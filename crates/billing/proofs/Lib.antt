@@ -1,6 +1,6 @@
 pub mod Products
 pub mod Sums
-pub mod Chains
 pub mod Relations
 pub mod Forward
 pub mod Lawful
+pub mod Searches

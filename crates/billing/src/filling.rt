@@ -43,10 +43,10 @@ fn hauled_value(value: u32, weight: u16, locomotives: u8) -> u64
     ensures value { result ≡ hauled_value value weight locomotives }
     ensures bound { result ≤ max_slot_value }
 {
-    let Some(divisor) = Divisor::new(THOUSANDTHS * locomotives as u64) else {
-        unreachable()
+    let Some(divisor) = Divisor::new(THOUSANDTHS * u64::from(locomotives)) else {
+        unreachable!()
     };
-    let product = value as u64 * weight as u64;
+    let product = u64::from(value) * u64::from(weight);
     rounded(product as i64, divisor).unsigned_abs()
 }
 
@@ -60,8 +60,8 @@ pub(crate) fn fill_of(leg: MeteredLeg, values: SlotValues) -> Fill
 {
     match leg {
         MeteredLeg::MultipleUnit => Fill {
-            consumption: values.consumption as u64,
-            regeneration: values.regeneration as u64,
+            consumption: u64::from(values.consumption),
+            regeneration: u64::from(values.regeneration),
         },
         MeteredLeg::Hauled {
             weight,
@@ -71,7 +71,7 @@ pub(crate) fn fill_of(leg: MeteredLeg, values: SlotValues) -> Fill
             regeneration: hauled_value(values.regeneration, weight, locomotives),
         },
         MeteredLeg::NonJourney => Fill {
-            consumption: values.consumption as u64,
+            consumption: u64::from(values.consumption),
             regeneration: 0,
         },
     }
@@ -87,9 +87,9 @@ pub(crate) fn total_filled(block: Option<ReadingBlock>, slots: u8, fill: u64) ->
     ensures bound { result ≤ max_net }
 {
     match block {
-        None => slots as u64 * fill,
+        None => u64::from(slots) * fill,
         Some(block) => {
-            let missing = slots as u64 - block.count() as u64;
+            let missing = u64::from(slots) - u64::from(block.count());
             block.total() + missing * fill
         }
     }
@@ -98,41 +98,27 @@ pub(crate) fn total_filled(block: Option<ReadingBlock>, slots: u8, fill: u64) ->
 fn has_reading(block: Option<ReadingBlock>, slot: u8) -> bool
     ensures { result ≡ has_reading (option_map described_block block.entry) slot }
 {
-    match block {
-        None => false,
-        Some(block) => block.has_reading(slot),
-    }
+    block.is_some_and(|block| block.has_reading(slot))
 }
 
 // Whether a book is asked for missing regeneration.
 fn asks_regeneration(leg: MeteredLeg) -> bool
     ensures { result ≡ asks_regeneration leg }
 {
-    match leg {
-        MeteredLeg::MultipleUnit => true,
-        MeteredLeg::Hauled { .. } => true,
-        MeteredLeg::NonJourney => false,
-    }
+    !matches!(leg, MeteredLeg::NonJourney)
 }
 
 // Whether a missing reading of the slot needs a value.
 fn needs_value(metered: Metered, slot: u8) -> bool
     ensures { result ≡ needs_value (described_metered metered.entry) slot }
 {
-    if !has_reading(metered.consumption, slot) {
-        return true;
-    }
-    asks_regeneration(metered.leg) && !has_reading(metered.regeneration, slot)
+    !has_reading(metered.consumption, slot)
+        || asks_regeneration(metered.leg) && !has_reading(metered.regeneration, slot)
 }
 
 // The lowest slot that needs a value.
 pub(crate) fn first_needing(metered: Metered) -> Option<u8>
     ensures { result ≡ first_needing (described_metered metered.entry) }
 {
-    for slot in 0..metered.slots {
-        if needs_value(metered, slot) {
-            return Some(slot);
-        }
-    }
-    None
+    (0..metered.slots).find(|slot| needs_value(metered, *slot))
 }

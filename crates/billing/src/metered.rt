@@ -60,6 +60,7 @@ fn fill_values<I: InfillBook>(
 }
 
 // The net and billed Wh, or the fault of the table or the book that lacks something.
+#[tactic(auto, unfolding(crate::specs::Bills::metered_volume))]
 pub(crate) fn metered_volume<T: TariffBook, I: InfillBook>(
     tables: &Tables<T, I>,
     metered: Metered,
@@ -70,12 +71,12 @@ pub(crate) fn metered_volume<T: TariffBook, I: InfillBook>(
     ensures { result ≡ metered_volume (contents tables.now.categories.now) (contents tables.now.losses.now) (I.values tables.now.infill.now) (described_metered metered.entry) span.place span.next }
 {
     let Span { place, next } = span;
-    let Some(line) = line_for_leg(tables.categories, metered.billing.category, metered.leg) else {
-        return Err(BookFault::Category { place, next });
-    };
-    let Some(loss) = find_loss(tables.losses, metered.billing.area, line.electricity()) else {
-        return Err(BookFault::Loss { place, next });
-    };
+    let line = line_for_leg(tables.categories, metered.billing.category, metered.leg).ok_or(
+        BookFault::Category { place, next },
+    )?;
+    let loss = find_loss(tables.losses, metered.billing.area, line.electricity()).ok_or(
+        BookFault::Loss { place, next },
+    )?;
     let values = fill_values(tables.infill, metered, span)?;
     let net = net_of(metered, values);
     let wh = metered_wh(net, line.power_factor(), loss.loss());

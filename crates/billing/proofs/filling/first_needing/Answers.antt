@@ -1,16 +1,12 @@
-use Rattle.std.proofs.Common.{sym, refl, ◌∙◌}
-use Rattle.amounts.specs.Lowest.{lowest}
+use Rattle.std.proofs.Common.{◌≡◌, true, false, rules}
+use Rattle.std.proofs.lemmas.Iterator.{first_from_Range}
 use Rattle.records.specs.Records.{described_metered}
-use Rattle.amounts.proofs.Lowest.{lowest_more, lowest_hit}
 use Rattle.billing.specs.Filling.{needs_value}
+use Rattle.billing.proofs.Searches.{found_lowest}
 use Rattle.billing.proofs.filling.first_needing.Goals as goal
 
-pub loop-slot-init : goal.loop-slot-init
-unfolding lowest
-loop-slot-init c = refl
-
-pub loop-slot-preserved : goal.loop-slot-preserved
-loop-slot-preserved c = lowest_more (needs_value (described_metered c.args.metered)) c.loop-slot.slot c.loop-slot.invariant (sym c.if-needs_value.false ∙ c.needs_value.ensures)
-
-pub returns-then-needs_value : goal.returns-then-needs_value
-returns-then-needs_value c = lowest_hit (needs_value (described_metered c.args.metered)) c.loop-slot.slot c.args.metered.slots c.loop-slot.invariant (sym c.if-needs_value.true ∙ c.needs_value.ensures) c.loop-slot-test.true
+pub returns : goal.returns
+returns c =
+    let needs = needs_value (described_metered c.args.metered) in
+    found_lowest needs c.args.metered.slots c.find.result
+    (first_from_Range _ _ _ c.find.result (λ i. needs i ≡ true) (λ i. needs i ≡ false) c.find.ensures.ran (λ i f called. search rules) (λ i f called. search rules))
