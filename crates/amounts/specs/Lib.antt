@@ -1,4 +1,5 @@
 pub mod Lowest
+pub mod Printed
 pub mod Quotients
 pub mod Ranges
 pub mod Refusals

@@ -33,7 +33,7 @@ impl Divisor {
         ensures range { is_some result ≡ (nat_le 1 value && nat_le value max_divisor) }
         ensures value { IfSome result (λ d. d.value ≡ value) }
     {
-        if value < 1 || value > Self::MAX {
+        if !(1..=Self::MAX).contains(&value) {
             return None;
         }
         Some(Divisor { value })

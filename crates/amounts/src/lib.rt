@@ -3,6 +3,7 @@
 
 mod divisor;
 mod fault;
+mod printed;
 mod quotient;
 mod ranges;
 mod refusal;

@@ -35,7 +35,7 @@ pub fn area_exists(area: u8) -> bool
 pub fn band_exists(band: u8) -> bool
     ensures { result ≡ band_exists band }
 {
-    FIRST_BAND <= band && band <= LAST_BAND
+    (FIRST_BAND..=LAST_BAND).contains(&band)
 }
 
 pub fn price_in_range(price: u32) -> bool

@@ -14,7 +14,7 @@ pub enum Layer {
 
 #[derive(Clone, Copy, PartialEq, Eq, Debug)]
 pub struct Refusal {
-    // The fault's number in the fault table.
+    // The number in the fault table. It stays a number: staff look it up, files hold it, and `new` takes any.
     pub number: u8,
     pub layer: Layer,
     // The record's first byte, or the area of a reconciliation's figure, or 0.

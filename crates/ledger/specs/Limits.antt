@@ -1,5 +1,6 @@
 -- The limits of a block: a limit itself is allowed, up or down.
-use Rattle.std.specs.Prelude.{◌≡◌, ℕ, Bool, true, ◌&&◌, List, [], ◌∷◌, length, ◌==◌, slice_index_or}
+use Rattle.std.specs.Prelude.{◌≡◌, ℕ, Bool, true, ◌&&◌, List, length, ◌==◌, slice_index_or}
+use Rattle.std.specs.List.{list_all}
 use Rattle.amounts.specs.Ranges.{accounts, within}
 use Rattle.ledger.specs.declared.block.AccountRecord.{AccountRecord}
 use Rattle.ledger.specs.declared.block.Cell.{Cell}
@@ -37,15 +38,13 @@ unfoldable pub cell_within : Cell → Bool
 cell_within c = sums_within c.sums && (volume_within c.volume && within c.cost max_cost)
 
 abbrev pub cells_within : List Cell → Bool
-cells_within [] = true
-cells_within (c ∷ cs) = cell_within c && cells_within cs
+cells_within cs = list_all cell_within cs
 
 unfoldable pub account_within : AccountRecord → Bool
 account_within a = within a.cost max_cost
 
 abbrev pub accounts_within : List AccountRecord → Bool
-accounts_within [] = true
-accounts_within (a ∷ rs) = account_within a && accounts_within rs
+accounts_within rs = list_all account_within rs
 
 -- a cell for each account and area, and a record for each account
 unfoldable pub counts_right : Block → Bool

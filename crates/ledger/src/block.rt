@@ -1,4 +1,6 @@
 // The cells and account records of a year: plain numbers, in memory that the caller lends.
+// They stay two slices: a post may write cells alone, so it borrows the account records as they are, and each call
+// says by its two borrows which of the two it may change.
 ghost use Rattle.std.specs.Prelude.{◌≡◌};
 ghost use Rattle.ledger.specs.Blocks.{cell_number};
 
@@ -8,7 +10,7 @@ use amounts::AREAS;
 pub const CELLS: usize = 1_280;
 
 // What the posts of a year have added up.
-#[derive(Clone, Copy, PartialEq, Eq, Debug)]
+#[derive(Clone, Copy, Default, PartialEq, Eq, Debug)]
 pub struct Sums {
     // In Wh.
     pub metered: i64,
@@ -19,7 +21,7 @@ pub struct Sums {
 }
 
 // What a volume reconciliation adjusts.
-#[derive(Clone, Copy, PartialEq, Eq, Debug)]
+#[derive(Clone, Copy, Default, PartialEq, Eq, Debug)]
 pub struct VolumeAdjustment {
     pub kwh: i64,
     // In pence.
@@ -28,7 +30,7 @@ pub struct VolumeAdjustment {
 }
 
 // One account in one area.
-#[derive(Clone, Copy, PartialEq, Eq, Debug)]
+#[derive(Clone, Copy, Default, PartialEq, Eq, Debug)]
 pub struct Cell {
     pub sums: Sums,
     pub volume: VolumeAdjustment,
@@ -37,7 +39,7 @@ pub struct Cell {
 }
 
 // One account over all areas.
-#[derive(Clone, Copy, PartialEq, Eq, Debug)]
+#[derive(Clone, Copy, Default, PartialEq, Eq, Debug)]
 pub struct AccountRecord {
     // The energy cost adjustment, in pence.
     pub cost: i64,
@@ -47,5 +49,5 @@ pub struct AccountRecord {
 pub fn cell_number(account: u8, area: u8) -> usize
     ensures { result ≡ cell_number account area }
 {
-    account as usize * AREAS as usize + area as usize
+    usize::from(account) * usize::from(AREAS) + usize::from(area)
 }

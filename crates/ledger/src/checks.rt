@@ -46,12 +46,7 @@ fn cell_within(cell: Cell) -> bool
 fn cells_within(cells: &[Cell]) -> bool
     ensures { result ≡ cells_within cells.now }
 {
-    for cell in cells {
-        if !cell_within(*cell) {
-            return false;
-        }
-    }
-    true
+    cells.iter().all(|cell| cell_within(*cell))
 }
 
 fn account_within(account: AccountRecord) -> bool
@@ -63,19 +58,14 @@ fn account_within(account: AccountRecord) -> bool
 fn accounts_within(accounts: &[AccountRecord]) -> bool
     ensures { result ≡ accounts_within accounts.now }
 {
-    for account in accounts {
-        if !account_within(*account) {
-            return false;
-        }
-    }
-    true
+    accounts.iter().all(|account| account_within(*account))
 }
 
 // Whether there is a cell for each account and area, and a record for each account.
 pub fn counts_are_right(cells: &[Cell], accounts: &[AccountRecord]) -> bool
     ensures { result ≡ counts_right (block cells.now accounts.now) }
 {
-    cells.len() == CELLS && accounts.len() == ACCOUNTS as usize
+    cells.len() == CELLS && accounts.len() == usize::from(ACCOUNTS)
 }
 
 // Whether the counts are right and no figure is beyond its limit.

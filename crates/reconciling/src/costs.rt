@@ -13,7 +13,7 @@ use crate::billed::{above, deliveries_in, energies};
 use crate::columns::write_column;
 use crate::cost_lines::share_over_all;
 use crate::fault::ReconcileFault;
-use crate::sheets::check_cost_sheet;
+use crate::sheets::{CostSheet, check_cost_sheet};
 use amounts::ACCOUNTS;
 use ledger::{AccountRecord, CELLS, Cell, block_is_sound};
 
@@ -64,21 +64,20 @@ fn energy_adjustments(cells: &[Cell], cost: u64) -> Result<[i64; ACCOUNTS as usi
     }
 }
 
-// The cost adjustments of every cell and account, by the delivery costs of the areas and the network's energy cost.
+// The cost adjustments of every cell and account, by the sheet of costs.
 pub fn cost_adjustments(
     cells: &[Cell],
     accounts: &[AccountRecord],
-    costs: &[u64],
-    energy: u64,
+    sheet: &CostSheet<'_>,
 ) -> Result<CostAdjustments, ReconcileFault>
-    ensures answer { result ≡ cost_outcome (block cells.now accounts.now) costs.now energy }
-    ensures fair { IfOk result (λ c. FairCosts cells.now costs.now energy c) }
+    ensures answer { result ≡ cost_outcome (block cells.now accounts.now) sheet.now.delivery.now sheet.now.energy }
+    ensures fair { IfOk result (λ c. FairCosts cells.now sheet.now.delivery.now sheet.now.energy c) }
 {
     if !block_is_sound(cells, accounts) {
         return Err(ReconcileFault::Block);
     }
-    check_cost_sheet(costs, energy)?;
-    let delivery = delivery_adjustments(cells, costs)?;
-    let energy = energy_adjustments(cells, energy)?;
+    check_cost_sheet(sheet)?;
+    let delivery = delivery_adjustments(cells, sheet.delivery)?;
+    let energy = energy_adjustments(cells, sheet.energy)?;
     Ok(CostAdjustments { delivery, energy })
 }

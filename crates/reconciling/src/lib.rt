@@ -13,5 +13,5 @@ mod volumes;
 
 pub use costs::{CostAdjustments, cost_adjustments};
 pub use fault::ReconcileFault;
-pub use sheets::AreaRow;
+pub use sheets::{AreaRow, CostSheet};
 pub use volumes::volume_adjustments;

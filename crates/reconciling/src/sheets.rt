@@ -18,6 +18,15 @@ pub struct AreaRow {
     pub delivery: u32,
 }
 
+// What the costs of a year came to, in pence.
+#[derive(Clone, Copy)]
+pub struct CostSheet<'s> {
+    // Each area's, for delivery.
+    pub delivery: &'s [u64],
+    // The network's, for energy.
+    pub energy: u64,
+}
+
 const MAX_SUPPLIED: u64 = 3_000_000_000;
 
 const WHOLE: u16 = 10_000;
@@ -57,20 +66,20 @@ pub(crate) fn check_area_sheet(sheet: &[AreaRow]) -> Result<(), ReconcileFault>
 }
 
 // A delivery cost for each area, and every cost in its range.
-pub(crate) fn check_cost_sheet(costs: &[u64], energy: u64) -> Result<(), ReconcileFault>
-    ensures answer { result ≡ unless_fault (cost_sheet_fault costs.now energy) tt }
-    ensures delivery { OnOk result (DeliveryCosts costs.now) }
-    ensures energy { OnOk result (cost_in_range energy ≡ true) }
+pub(crate) fn check_cost_sheet(sheet: &CostSheet<'_>) -> Result<(), ReconcileFault>
+    ensures answer { result ≡ unless_fault (cost_sheet_fault sheet.now.delivery.now sheet.now.energy) tt }
+    ensures delivery { OnOk result (DeliveryCosts sheet.now.delivery.now) }
+    ensures energy { OnOk result (cost_in_range sheet.now.energy ≡ true) }
 {
-    if costs.len() != AREAS as usize {
+    if sheet.delivery.len() != AREAS as usize {
         return Err(ReconcileFault::SheetLength);
     }
-    for (area, cost) in costs.iter().enumerate() {
+    for (area, cost) in sheet.delivery.iter().enumerate() {
         if !cost_in_range(*cost) {
             return Err(ReconcileFault::AreaFigure { area });
         }
     }
-    if cost_in_range(energy) {
+    if cost_in_range(sheet.energy) {
         Ok(())
     } else {
         Err(ReconcileFault::EnergyFigure)

@@ -9,13 +9,15 @@ ghost use Rattle.sharing.specs.Laws.{FairShare};
 mod checks;
 mod fault;
 mod line;
+mod quantity;
 mod ranking;
 mod spreading;
 mod weights;
 
 use checks::{MAX_LINES, accounts_rise, figures_in_limit};
 pub use fault::ShareFault;
-pub use line::{AccountLine, Weighted};
+pub use line::{AccountLine, AccountQuantity, Weighted};
+pub use quantity::{Kwh, Pence};
 use spreading::spread;
 use weights::copy_weights;
 

@@ -36,13 +36,13 @@ module _ (b : Block) (costs : List ℕ) (energy : ℕ) where
   ends_adjusted p q r t = sym (by_checks true None None None (sym p) q r t)
 
 pub returns-then-not-block_is_sound : goal.returns-then-not-block_is_sound
-returns-then-not-block_is_sound c = record { answer = ends_at_block (block c.args.cells.now c.args.accounts.now) c.args.costs.now c.args.energy c.if-not-block_is_sound.ensures.answer; fair = tt }
+returns-then-not-block_is_sound c = record { answer = ends_at_block (block c.args.cells.now c.args.accounts.now) c.args.sheet.now.delivery.now c.args.sheet.now.energy c.if-not-block_is_sound.ensures.answer; fair = tt }
 
 pub returns-in_err-check_cost_sheet : goal.returns-in_err-check_cost_sheet
 returns-in_err-check_cost_sheet c =
     let b = block c.args.cells.now c.args.accounts.now in
-    let costs = c.args.costs.now in
-    let energy = c.args.energy in
+    let costs = c.args.sheet.now.delivery.now in
+    let energy = c.args.sheet.now.energy in
     let f = c.in_err-check_cost_sheet.field-0.0 in
     let p = err_from_is_err_and c.from_residual.result c.from_residual.ensures.1 in
     let bad = fault_if (cost_sheet_fault costs energy) tt f c.in_err-check_cost_sheet.ensures.answer in
@@ -54,8 +54,8 @@ returns-in_err-check_cost_sheet c =
 pub returns-in_err-delivery : goal.returns-in_err-delivery
 returns-in_err-delivery c =
     let b = block c.args.cells.now c.args.accounts.now in
-    let costs = c.args.costs.now in
-    let energy = c.args.energy in
+    let costs = c.args.sheet.now.delivery.now in
+    let energy = c.args.sheet.now.energy in
     let f = c.in_err-delivery.field-0.0 in
     let p = err_from_is_err_and c.from_residual-in_err-delivery.result c.from_residual-in_err-delivery.ensures.1 in
     let sheet = no_fault_if (cost_sheet_fault costs energy) tt tt c.in_ok-check_cost_sheet.ensures.answer in
@@ -68,8 +68,8 @@ returns-in_err-delivery c =
 pub returns-in_err-energy : goal.returns-in_err-energy
 returns-in_err-energy c =
     let b = block c.args.cells.now c.args.accounts.now in
-    let costs = c.args.costs.now in
-    let energy = c.args.energy in
+    let costs = c.args.sheet.now.delivery.now in
+    let energy = c.args.sheet.now.energy in
     let f = c.in_err-energy.field-0.0 in
     let p = err_from_is_err_and c.from_residual-in_err-energy.result c.from_residual-in_err-energy.ensures.1 in
     let sheet = no_fault_if (cost_sheet_fault costs energy) tt tt c.in_ok-check_cost_sheet.ensures.answer in
@@ -87,8 +87,8 @@ both delivery energy = record { delivery = delivery; energy = energy }
 pub returns : goal.returns
 returns c =
     let b = block c.args.cells.now c.args.accounts.now in
-    let costs = c.args.costs.now in
-    let energy = c.args.energy in
+    let costs = c.args.sheet.now.delivery.now in
+    let energy = c.args.sheet.now.energy in
     let table = delivery_adjustments (sums_in b.cells) (volumes_in b.cells) costs in
     let parts = energy_adjustments (sums_in b.cells) (volumes_in b.cells) energy in
     let sheet = no_fault_if (cost_sheet_fault costs energy) tt tt c.in_ok-check_cost_sheet.ensures.answer in

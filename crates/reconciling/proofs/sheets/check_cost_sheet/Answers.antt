@@ -29,43 +29,43 @@ module _ (costs : List ℕ) (energy : ℕ) where
     after_areas : AllPass in_range areas → cost_sheet_fault costs energy ≡ fault_unless (cost_in_range energy) fault.EnergyFigure
     after_areas none = after_length ∙ ap (λ o. or_then o (fault_unless (cost_in_range energy) fault.EnergyFigure)) (no_area_fails in_range (λ area. fault.AreaFigure area) none)
 
-pub returns-then-costs : goal.returns-then-costs
-returns-then-costs c = record { answer = sym (ap (λ o. unless_fault o tt) (wrong_length c.args.costs.now c.args.energy c.if-costs.true)); delivery = tt; energy = tt }
+pub returns-then-sheet : goal.returns-then-sheet
+returns-then-sheet c = record { answer = sym (ap (λ o. unless_fault o tt) (wrong_length c.args.sheet.now.delivery.now c.args.sheet.now.energy c.if-sheet.true)); delivery = tt; energy = tt }
 
 pub loop-area-init : goal.loop-area-init
 unfolding lowest
 loop-area-init c = refl
 
 pub loop-area-preserved : goal.loop-area-preserved
-loop-area-preserved c = all_pass_more (in_range c.args.costs.now c.args.energy) c.loop-area.area c.loop-area.invariant (sym c.if-not-cost_in_range.ensures)
+loop-area-preserved c = all_pass_more (in_range c.args.sheet.now.delivery.now c.args.sheet.now.energy) c.loop-area.area c.loop-area.invariant (sym c.if-not-cost_in_range.ensures)
 
 pub returns-then-not-cost_in_range : goal.returns-then-not-cost_in_range
 returns-then-not-cost_in_range c =
-    let fails = area_out c.args.costs.now c.args.energy c.if-costs.false c.loop-area.area c.loop-area.invariant (sym c.if-not-cost_in_range.ensures) (omega arith) in
+    let fails = area_out c.args.sheet.now.delivery.now c.args.sheet.now.energy c.if-sheet.false c.loop-area.area c.loop-area.invariant (sym c.if-not-cost_in_range.ensures) (omega arith) in
     record { answer = sym (ap (λ o. unless_fault o tt) fails); delivery = tt; energy = tt }
 
 pub returns-then-cost_in_range : goal.returns-then-cost_in_range
 returns-then-cost_in_range c =
-    let costs = c.args.costs.now in
-    let energy = c.args.energy in
+    let costs = c.args.sheet.now.delivery.now in
+    let energy = c.args.sheet.now.energy in
     let end : c.loop-area.area ≡ areas = omega arith in
     let all = subst (AllPass (in_range costs energy)) end c.loop-area.invariant in
     let good = sym c.if-cost_in_range.ensures in
     record {
-      answer = sym (ap (λ o. unless_fault o tt) (after_areas costs energy c.if-costs.false all ∙ ap (λ b. fault_unless b fault.EnergyFigure) good));
-      delivery = record { count = c.if-costs.false; ranged = λ area l. each_passes (in_range costs energy) areas area all l };
+      answer = sym (ap (λ o. unless_fault o tt) (after_areas costs energy c.if-sheet.false all ∙ ap (λ b. fault_unless b fault.EnergyFigure) good));
+      delivery = record { count = c.if-sheet.false; ranged = λ area l. each_passes (in_range costs energy) areas area all l };
       energy = good;
     }
 
 pub returns-else-cost_in_range : goal.returns-else-cost_in_range
 returns-else-cost_in_range c =
-    let costs = c.args.costs.now in
-    let energy = c.args.energy in
+    let costs = c.args.sheet.now.delivery.now in
+    let energy = c.args.sheet.now.energy in
     let end : c.loop-area.area ≡ areas = omega arith in
     let all = subst (AllPass (in_range costs energy)) end c.loop-area.invariant in
     let bad = sym c.if-cost_in_range.ensures in
     record {
-      answer = sym (ap (λ o. unless_fault o tt) (after_areas costs energy c.if-costs.false all ∙ ap (λ b. fault_unless b fault.EnergyFigure) bad));
+      answer = sym (ap (λ o. unless_fault o tt) (after_areas costs energy c.if-sheet.false all ∙ ap (λ b. fault_unless b fault.EnergyFigure) bad));
       delivery = tt;
       energy = tt;
     }

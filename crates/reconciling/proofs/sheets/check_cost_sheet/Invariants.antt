@@ -4,4 +4,4 @@ use Rattle.reconciling.specs.Sheets.{cost_in_range, cost_at}
 use Rattle.reconciling.proofs.sheets.check_cost_sheet.Given as goal
 
 abbrev pub invariant-loop-area : goal.invariant-loop-area
-invariant-loop-area l = lowest (λ area. not (cost_in_range (cost_at l.costs area))) l.area ≡ None
+invariant-loop-area l = lowest (λ area. not (cost_in_range (cost_at l.sheet.delivery.now area))) l.area ≡ None
