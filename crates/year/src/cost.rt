@@ -10,7 +10,7 @@ ghost use Rattle.year.specs.Steps.{CostExtends};
 use crate::states::{SettledYear, VolumeSettledYear};
 use crate::writing::{set_accounts, set_costs};
 use ledger::{AccountRecord, Cell};
-use reconciling::{ReconcileFault, cost_adjustments};
+use reconciling::{CostSheet, ReconcileFault, cost_adjustments};
 
 impl VolumeSettledYear {
     // Shares what each area's delivery cost, and the network's energy cost, is above or below the bills, and sets every
@@ -19,16 +19,15 @@ impl VolumeSettledYear {
         self,
         cells: &mut [Cell],
         accounts: &mut [AccountRecord],
-        costs: &[u64],
-        energy: u64,
+        costs: &CostSheet<'_>,
     ) -> Result<SettledYear, (VolumeSettledYear, ReconcileFault)>
-        ensures promise { ReconcilesCost self (block cells.old accounts.old) costs.now energy result (block cells.new accounts.new) }
-        ensures fair { OnOk result (FairCosts (sums_in cells.old) (volumes_in cells.old) costs.now energy (block cells.new accounts.new)) }
-        ensures run { CostExtends self (block cells.old accounts.old) costs.now energy result (block cells.new accounts.new) }
-        ensures year_settles { YearSettles self (block cells.old accounts.old) costs.now energy result (block cells.new accounts.new) }
+        ensures promise { ReconcilesCost self (block cells.old accounts.old) costs.now.delivery.now costs.now.energy result (block cells.new accounts.new) }
+        ensures fair { OnOk result (FairCosts (sums_in cells.old) (volumes_in cells.old) costs.now.delivery.now costs.now.energy (block cells.new accounts.new)) }
+        ensures run { CostExtends self (block cells.old accounts.old) costs.now.delivery.now costs.now.energy result (block cells.new accounts.new) }
+        ensures year_settles { YearSettles self (block cells.old accounts.old) costs.now.delivery.now costs.now.energy result (block cells.new accounts.new) }
     {
         // Both arms hand a year on, and a closure of `map_err` would take it from the other.
-        match cost_adjustments(cells, accounts, costs, energy) {
+        match cost_adjustments(cells, accounts, costs) {
             Ok(table) => {
                 set_costs(cells, &table.delivery);
                 set_accounts(accounts, &table.energy);
