@@ -3,4 +3,5 @@ pub mod Volumes
 pub mod Filling
 pub mod Faults
 pub mod Bills
+pub mod Tables
 pub mod Laws

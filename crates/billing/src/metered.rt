@@ -12,9 +12,10 @@ use crate::bill::{Span, Volume};
 use crate::categories::line_for_leg;
 use crate::fault::BookFault;
 use crate::filling::{fill_of, first_needing, kind_of, total_filled};
+use crate::tables::Tables;
 use crate::volume::metered_wh;
-use books::{InfillBook, SlotValues};
-use lines::{CategoryLine, LossLine, OrderedList, find_loss};
+use books::{InfillBook, SlotValues, TariffBook};
+use lines::find_loss;
 use records::Metered;
 
 // All consumption less all regeneration, missing readings filled.
@@ -59,25 +60,23 @@ fn fill_values<I: InfillBook>(
 }
 
 // The net and billed Wh, or the fault of the table or the book that lacks something.
-pub(crate) fn metered_volume<I: InfillBook>(
-    categories: &OrderedList<CategoryLine>,
-    losses: &OrderedList<LossLine>,
-    infill: &I,
+pub(crate) fn metered_volume<T: TariffBook, I: InfillBook>(
+    tables: &Tables<T, I>,
     metered: Metered,
     span: Span,
 ) -> Result<Volume, BookFault>
     requires ranged { MeteredRanged (described_metered metered) }
     requires whole { WholeRecord (described_metered metered) }
-    ensures { result ≡ metered_volume (contents categories.now) (contents losses.now) (I.values infill.now) (described_metered metered.entry) span.place span.next }
+    ensures { result ≡ metered_volume (contents tables.now.categories.now) (contents tables.now.losses.now) (I.values tables.now.infill.now) (described_metered metered.entry) span.place span.next }
 {
     let Span { place, next } = span;
-    let Some(line) = line_for_leg(categories, metered.billing.category, metered.leg) else {
+    let Some(line) = line_for_leg(tables.categories, metered.billing.category, metered.leg) else {
         return Err(BookFault::Category { place, next });
     };
-    let Some(loss) = find_loss(losses, metered.billing.area, line.electricity()) else {
+    let Some(loss) = find_loss(tables.losses, metered.billing.area, line.electricity()) else {
         return Err(BookFault::Loss { place, next });
     };
-    let values = fill_values(infill, metered, span)?;
+    let values = fill_values(tables.infill, metered, span)?;
     let net = net_of(metered, values);
     let wh = metered_wh(net, line.power_factor(), loss.loss());
     Ok(Volume::Metered { net, wh })

@@ -1,5 +1,5 @@
 // The tables and the books of every example.
-use billing::{Bill, PostFault, bill_record};
+use billing::{Bill, PostFault, Tables, bill_record};
 use books::{TableInfill, TableTariff};
 use lines::{
     CategoryLine, Electricity, InfillLine, ListFault, LossLine, MeteredKind, OrderedList,
@@ -80,5 +80,6 @@ pub(crate) fn billed(batch: &[u8], place: usize) -> Result<Result<Bill, PostFaul
     fill_values(&mut values)?;
     let tariff = TableTariff::new(&prices);
     let infill = TableInfill::new(&values);
-    Ok(bill_record(&categories, &losses, &tariff, &infill, batch, place))
+    let tables = Tables::new(&categories, &losses, &tariff, &infill);
+    Ok(bill_record(&tables, batch, place))
 }
