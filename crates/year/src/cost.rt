@@ -31,8 +31,9 @@ impl VolumeSettledYear {
             Ok(table) => {
                 set_costs(cells, &table.delivery);
                 set_accounts(accounts, &table.energy);
-                let VolumeSettledYear { accepted } = self;
-                Ok(SettledYear { accepted })
+                Ok(SettledYear {
+                    accepted: self.accepted,
+                })
             }
             Err(fault) => Err((self, fault)),
         }

@@ -28,8 +28,9 @@ impl OpenYear {
         match volume_adjustments(cells, accounts, sheet) {
             Ok(table) => {
                 set_volumes(cells, &table);
-                let OpenYear { accepted } = self;
-                Ok(VolumeSettledYear { accepted })
+                Ok(VolumeSettledYear {
+                    accepted: self.accepted,
+                })
             }
             Err(fault) => Err((self, fault)),
         }
