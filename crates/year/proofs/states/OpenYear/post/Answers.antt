@@ -22,8 +22,8 @@ returns-in-Ok g c =
     let xs = c.args.batch.now in
     let at = c.args.place in
     let p =
-        subst (λ k. Posts m y (block cells rows) xs at (Ok (open_at k, c.in-Ok.next)) (block c.post_checked.new.cells rows)) (sym c.saturating_add-accepted.ensures)
-        (post_accepts m y cells rows xs at (sym c.block_is_sound.ensures.answer ∙ c.if-not-block_is_sound.false) c.in-Ok.next c.post_checked.new.cells c.in-Ok.ensures.answer c.post_checked.ensures.after) in
+    subst (λ k. Posts m y (block cells rows) xs at (Ok (open_at k, c.in-Ok.next)) (block c.post_checked.new.cells rows)) (sym c.saturating_add-accepted.ensures)
+    (post_accepts m y cells rows xs at (sym c.block_is_sound.ensures.answer ∙ c.if-not-block_is_sound.false) c.in-Ok.next c.post_checked.new.cells c.in-Ok.ensures.answer c.post_checked.ensures.after) in
     record { promise = p; run = post_extends _ p; forward = post_forward p }
 
 pub returns-in-Err : goal.returns-in-Err
