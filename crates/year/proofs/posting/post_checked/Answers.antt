@@ -1,17 +1,17 @@
 use Rattle.std.proofs.Common.{cond, Err, sym, ap, ◌∙◌}
 use Rattle.year.specs.Outcomes.{with_bill}
 use Rattle.std.proofs.lemmas.Result.{err_from_is_err_and}
-use Rattle.billing.specs.Bills.{sources, bill_at}
+use Rattle.billing.specs.Bills.{bill_at}
+use Rattle.billing.specs.Tables.{sources_of}
 use Rattle.billing.specs.declared.fault.LedgerFault.TheVariants as ledger
 use Rattle.billing.specs.declared.fault.PostFault.TheVariants as post
-use Rattle.lines.specs.Contents.{contents}
 use Rattle.year.proofs.Bills.{bill_in_range}
 use Rattle.year.proofs.PostEnds.{refused_by, accepted_by, fits, not_billed, not_entered, entered}
 use Rattle.year.proofs.posting.post_checked.Goals as goal
 
 pub returns-in_err-bill : goal.returns-in_err-bill
 returns-in_err-bill g c =
-    let m = sources (contents c.args.categories.now) (contents c.args.losses.now) (g.T.TariffBook.prices c.args.tariff.now) (g.I.InfillBook.values c.args.infill.now) in
+    let m = sources_of g.T.TariffBook.prices g.I.InfillBook.values c.args.tables.now in
     let o = bill_at m c.args.batch.now c.args.place in
     let p = err_from_is_err_and c.from_residual.result c.from_residual.ensures.1 in
     let e = not_billed c.args.cells.now c.args.place o c.in_err-bill.field-0.0 c.in_err-bill.ensures.answer in
@@ -19,13 +19,13 @@ returns-in_err-bill g c =
 
 pub enter-requires : goal.enter-requires
 enter-requires g c =
-    let m = sources (contents c.args.categories.now) (contents c.args.losses.now) (g.T.TariffBook.prices c.args.tariff.now) (g.I.InfillBook.values c.args.infill.now) in
+    let m = sources_of g.T.TariffBook.prices g.I.InfillBook.values c.args.tables.now in
     let r = bill_in_range m c.args.batch.now c.args.place c.in_ok-bill.bill (sym c.in_ok-bill.ensures.answer) in
     record { count = c.requires; account = r.account; area = r.area }
 
 pub returns-in_err-enter : goal.returns-in_err-enter
 returns-in_err-enter g c =
-    let m = sources (contents c.args.categories.now) (contents c.args.losses.now) (g.T.TariffBook.prices c.args.tariff.now) (g.I.InfillBook.values c.args.infill.now) in
+    let m = sources_of g.T.TariffBook.prices g.I.InfillBook.values c.args.tables.now in
     let o = bill_at m c.args.batch.now c.args.place in
     let cells = c.args.cells.now in
     let bill = c.in_ok-bill.bill in
@@ -41,7 +41,7 @@ returns-in_err-enter g c =
 
 pub returns : goal.returns
 returns g c =
-    let m = sources (contents c.args.categories.now) (contents c.args.losses.now) (g.T.TariffBook.prices c.args.tariff.now) (g.I.InfillBook.values c.args.infill.now) in
+    let m = sources_of g.T.TariffBook.prices g.I.InfillBook.values c.args.tables.now in
     let o = bill_at m c.args.batch.now c.args.place in
     let cells = c.args.cells.now in
     let bill = c.in_ok-bill.bill in
