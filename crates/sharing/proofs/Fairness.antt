@@ -17,10 +17,10 @@ zero_off : (p z : ℤ) (t w : ℕ) → t ≡ 0 → w ≡ 0 → nat_abs (p *ℤ p
 zero_off p z t w e f = ap₂ (λ x y. nat_abs (p *ℤ pos x -ℤ z *ℤ pos y)) e f ∙ omega (arith, ints)
 
 module _ (z : ℤ) (ws : List ℕ) where
-  unshared_all : total_weight ws ≡ 0 → unshared z ws ≡ z
+  pub unshared_all : total_weight ws ≡ 0 → unshared z ws ≡ z
   unshared_all none = cond-true (eqb (total_weight ws) 0) z (pos 0) (eq-eqb (total_weight ws) 0 none)
 
-  unshared_none : 0 < total_weight ws → unshared z ws ≡ pos 0
+  pub unshared_none : 0 < total_weight ws → unshared z ws ≡ pos 0
   unshared_none some = cond-false (eqb (total_weight ws) 0) z (pos 0) (ne_eqb (total_weight ws) 0 (λ e. omega arith))
 
   conserved : unshared z ws +ℤ int_sum_to (part z ws) (length ws) ≡ z

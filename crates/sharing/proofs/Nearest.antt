@@ -1,5 +1,5 @@
 -- No other sharing of the quotient amount is nearer to the exact shares.
-use Rattle.std.proofs.Common.{◌≡◌, ℕ, zero, suc, ◌+◌, ◌-◌, ◌*◌, ◌<◌, ◌≤◌, max, Bool, true, false, cond, ltb, ◌⊎◌, List, length, sym, ap, ◌∙◌, subst, inl, inr, mul-le-mul_right, arith}
+use Rattle.std.proofs.Common.{◌≡◌, ℕ, zero, suc, ◌+◌, ◌-◌, ◌*◌, ◌<◌, ◌≤◌, max, Bool, true, false, cond, ltb, ◌⊎◌, List, length, ap, ◌∙◌, inl, inr, mul-le-mul_right, arith}
 use Rattle.std.proofs.lemmas.Bool.{cases_eq, cases_lt, cases_Bool, ltb-true, ltb-false, cond_both}
 use Rattle.amounts.specs.Sums.{sum_to, one}
 use Rattle.sharing.specs.Shares.{weight_at, total_weight, quotient, remainder, leftover, gets_extra, size}
@@ -12,31 +12,28 @@ use Rattle.sharing.proofs.Fair.{split, remainder_lt, gets_extra_is, extras_come_
 abbrev Toll : ℕ → ℕ → ℕ → ℕ → ℕ → ℕ → Type 0
 Toll t θ u m r e = dist (e * t) r + t * u + 2 * (θ * m) + 2 * (θ * e) ≤ dist (u * t) (m * t + r) + t * e + 2 * (θ * u) + t * m
 
-toll_below : (t θ u k r e : ℕ) → θ ≤ t → r < t → ((e ≡ 1) × (θ ≤ r)) ⊎ ((e ≡ 0) × (r ≤ θ)) → Toll t θ u (u + k) r e
-toll_below t θ u k r e a b (inl f) =
-    let g : e * t ≡ 1 * t = ap (λ y. y * t) f.0 in
-    let h : θ * e ≡ θ * 1 = ap (λ y. θ * y) f.0 in
-    omega (arith, f.1, mul-le-mul_right k a)
-toll_below t θ u k r e a b (inr f) =
-    let g : e * t ≡ 0 * t = ap (λ y. y * t) f.0 in
-    let h : θ * e ≡ θ * 0 = ap (λ y. θ * y) f.0 in
-    omega (arith, f.1, mul-le-mul_right k a)
+-- m is k below u or above it, and e is one or none: the products that this comes to
+abbrev Apart : ℕ → ℕ → ℕ → ℕ → ℕ → Type 0
+Apart t θ u m k = ((t * m ≡ t * u + t * k) × (θ * m ≡ θ * u + θ * k)) ⊎ ((t * u ≡ t * m + t * k + t) × (θ * u ≡ θ * m + θ * k + θ))
 
-toll_above : (t θ m k r e : ℕ) → θ ≤ t → r < t → ((e ≡ 1) × (θ ≤ r)) ⊎ ((e ≡ 0) × (r ≤ θ)) → Toll t θ (m + suc k) m r e
-toll_above t θ m k r e a b (inl f) =
-    let g : e * t ≡ 1 * t = ap (λ y. y * t) f.0 in
-    let h : θ * e ≡ θ * 1 = ap (λ y. θ * y) f.0 in
-    omega (arith, f.1, mul-le-mul_right k a)
-toll_above t θ m k r e a b (inr f) =
-    let g : e * t ≡ 0 * t = ap (λ y. y * t) f.0 in
-    let h : θ * e ≡ θ * 0 = ap (λ y. θ * y) f.0 in
-    omega (arith, f.1, mul-le-mul_right k a)
+abbrev Added : ℕ → ℕ → ℕ → ℕ → Type 0
+Added t θ r e = ((e * t ≡ t) × (θ * e ≡ θ) × (θ ≤ r)) ⊎ ((e * t ≡ 0) × (θ * e ≡ 0) × (r ≤ θ))
+
+toll_by : (t θ u m k r e : ℕ) → θ ≤ t → θ * k ≤ t * k → r < t → Apart t θ u m k → Added t θ r e → Toll t θ u m r e
+toll_by t θ u m k r e a l b p q = grind arith
+
+added : (t θ r e : ℕ) → ((e ≡ 1) × (θ ≤ r)) ⊎ ((e ≡ 0) × (r ≤ θ)) → Added t θ r e
+added t θ r e (inl f) = let g = ap (λ y. y * t) f.0 in let h = ap (λ y. θ * y) f.0 in inl (omega arith, omega arith, f.1)
+added t θ r e (inr f) = let g = ap (λ y. y * t) f.0 in let h = ap (λ y. θ * y) f.0 in inr (omega arith, omega arith, f.1)
+
+apart : (t θ u m : ℕ) → (k : ℕ) × Apart t θ u m k
+apart t θ u m = elim (cases_lt m u) [
+  | inl l ↦ (u - suc m, inr (let k : ℕ = u - suc m in let f : u ≡ m + k + 1 = omega arith in (ap (λ x. t * x) f ∙ omega arith, ap (λ x. θ * x) f ∙ omega arith)))
+  | inr l ↦ (m - u, inl (let k : ℕ = m - u in let f : m ≡ u + k = omega arith in (ap (λ x. t * x) f ∙ omega arith, ap (λ x. θ * x) f ∙ omega arith)))
+]
 
 toll : (t θ u m r e : ℕ) → θ ≤ t → r < t → ((e ≡ 1) × (θ ≤ r)) ⊎ ((e ≡ 0) × (r ≤ θ)) → Toll t θ u m r e
-toll t θ u m r e a b c = elim (cases_lt m u) [
-  | inl l ↦ (let k : ℕ = u - suc m in let f : u ≡ m + suc k = omega arith in subst (λ x. Toll t θ x m r e) (sym f) (toll_above t θ m k r e a b c))
-  | inr l ↦ (let k : ℕ = m - u in let f : m ≡ u + k = omega arith in subst (λ x. Toll t θ u x r e) (sym f) (toll_below t θ u k r e a b c))
-]
+toll t θ u m r e a b c = let k = apart t θ u m in toll_by t θ u m k.0 r e a (mul-le-mul_right k.0 a) b k.1 (added t θ r e c)
 
 -- ---- all lines
 module _ (t θ : ℕ) (u m r e : ℕ → ℕ) where

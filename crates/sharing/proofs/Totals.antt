@@ -1,9 +1,8 @@
 -- Sums and counts over lists, as sums over the lines' indices.
-use Rattle.std.proofs.Common.{◌≡◌, ℕ, zero, suc, ◌+◌, ◌-◌, ◌≤◌, List, map, length, get_or, take, sym, refl, ap, ap₂, ◌∙◌, add-one, arith, false, ltb, leb, eqb, ◌&&◌, ◌<◌, ℤ, pos, Option, Some, None, Bor}
+use Rattle.std.proofs.Common.{◌≡◌, ℕ, zero, suc, ◌+◌, ◌-◌, ◌≤◌, List, map, length, get_or, take, sym, refl, ap, ap₂, ◌∙◌, add-one, arith, false, ltb, leb, ◌&&◌, ◌<◌, ℤ, Option, Some, None, Bor}
 use Rattle.std.specs.List.{range_with_len, sum, sum_by}
 use Rattle.std.specs.Option.{MatchOption, IfSome}
 use Rattle.std.proofs.lemmas.List.{length-map, get_or_past, get_or-map}
-use Rattle.std.proofs.lemmas.Bool.{cond-false}
 use Rattle.std.proofs.lemmas.Bool.Decides.{nat_tests}
 use Rattle.std.proofs.lemmas.List.FromFn.{fill_by_all, length-map-range_with_len, get_or-map-range_with_len, take-map-range_with_len, sum_by-map-range_with_len_more}
 use Rattle.std.proofs.lemmas.List.Sums.{sum_by-le}
@@ -13,7 +12,7 @@ use Rattle.amounts.specs.Ranges.{max_divisor}
 use Rattle.sharing.specs.Limits.{WithinLimits, max_weight, max_lines}
 use Rattle.sharing.specs.declared.claims.Claim.{Claim}
 use Rattle.sharing.specs.Claims.{claim_at, claims_of, before, units}
-use Rattle.sharing.specs.Shares.{counting_weight, weight_at, total_weight, quotient, remainder, leftover, rank_by, size, unshared}
+use Rattle.sharing.specs.Shares.{counting_weight, weight_at, total_weight, quotient, remainder, leftover, rank_by, size}
 use Rattle.sharing.proofs.Fair.{quotients_within}
 
 -- ---- over the indices below n
@@ -24,10 +23,6 @@ sum_by_is g f (suc n) = sym (ap (λ m. sum_by g (map f (range_with_len 0 m))) (a
 -- a list is what it holds at each index
 pub listed : (ws : List ℕ) → ws ≡ map (weight_at ws) (range_with_len 0 (length ws))
 listed ws = fill_by_all (weight_at ws) ws (length ws) 0 refl (λ k l. refl)
-
--- the front of an array that is longer
-pub front : {X : Type 0} (f : ℕ → X) (n m : ℕ) → n ≤ m → take n (map f (range_with_len 0 m)) ≡ map f (range_with_len 0 n)
-front f n m l = take-map-range_with_len f 0 m n l
 
 -- what counts of a line's weight, and nothing where there is no line
 pub counts_at : {L : Type 0} (f : L → ℤ) (ls : List L) (i r : ℕ) (o : Option (Bor L)) → MatchOption o (length ls ≤ i) (λ x. i < length ls) → IfSome o (λ x. x.now ≡ get_or ls i x.now) → MatchOption o (r ≡ 0) (λ x. r ≡ counting_weight (f x.now)) → r ≡ weight_at (map counting_weight (map f ls)) i
@@ -42,7 +37,7 @@ pub counted : {L : Type 0} (f : L → ℤ) (ls : List L) (rs : List ℕ) → rs 
 counted f ls rs e l =
     let ws = map counting_weight (map f ls) in
     let long : length ws ≡ length ls = length-map (map f ls) counting_weight ∙ length-map ls f in
-    ap₂ (λ n xs. take n xs) (sym long) e ∙ front (weight_at ws) (length ws) max_lines (omega arith) ∙ sym (listed ws)
+    ap₂ (λ n xs. take n xs) (sym long) e ∙ take-map-range_with_len (weight_at ws) 0 max_lines (length ws) (omega arith) ∙ sym (listed ws)
 
 -- ---- weights
 pub total_is : (ws : List ℕ) → sum ws ≡ total_weight ws
@@ -58,9 +53,6 @@ some_total ws t v e f l = omega (arith, total_is ws)
 pub no_total : (ws : List ℕ) (t : ℕ) → WithinLimits ws → t ≡ sum ws → false ≡ (leb 1 t && leb t max_divisor) → total_weight ws ≡ 0
 no_total ws t h e out = let fits = total_fits ws h in let total = total_is ws in let none : t ≡ 0 = grind (arith, nat_tests) in omega arith
 
-pub unshared_none : (z : ℤ) (ws : List ℕ) → 0 < total_weight ws → pos 0 ≡ unshared z ws
-unshared_none z ws some = sym (cond-false (eqb (total_weight ws) 0) z (pos 0) (grind (arith, nat_tests)))
-
 -- ---- claims
 module _ (a : ℕ) (ws : List ℕ) where
   quotients_are : (n : ℕ) → sum_by (λ (c : Claim). c.quotient) (claims_of a ws n) ≡ sum_to (quotient a ws) n
@@ -72,13 +64,16 @@ module _ (a : ℕ) (ws : List ℕ) where
   -- the claims of the lines, at the front of an array
   module _ (cs : List Claim) (is : cs ≡ claims_of a ws max_lines) (few : length ws ≤ max_lines) where
     lines_claims : take (length ws) cs ≡ claims_of a ws (length ws)
-    lines_claims = ap (take (length ws)) is ∙ front (claim_at a ws) (length ws) max_lines few
+    lines_claims = ap (take (length ws)) is ∙ take-map-range_with_len (claim_at a ws) 0 max_lines (length ws) few
 
-    pub as_many : length (take (length ws) cs) ≡ length ws
-    as_many = ap length lines_claims ∙ length-map-range_with_len (claim_at a ws) 0 (length ws)
+    pub inside : (i : ℕ) → i < length (take (length ws) cs) → i < length ws
+    inside i l = omega (arith, ap length lines_claims, length-map-range_with_len (claim_at a ws) 0 (length ws))
 
-    pub claim_is : (i : ℕ) (d : Claim) → i < length ws → get_or (take (length ws) cs) i d ≡ claim_at a ws i
-    claim_is i d l = ap (λ xs. get_or xs i d) lines_claims ∙ get_or-map-range_with_len (claim_at a ws) 0 (length ws) i i d l (omega arith)
+    claim_is : (i : ℕ) (d : Claim) → i < length (take (length ws) cs) → get_or (take (length ws) cs) i d ≡ claim_at a ws i
+    claim_is i d l = ap (λ xs. get_or xs i d) lines_claims ∙ get_or-map-range_with_len (claim_at a ws) 0 (length ws) i i d (inside i l) (omega arith)
+
+    pub index_is : (i : ℕ) (d : Claim) → i < length (take (length ws) cs) → (get_or (take (length ws) cs) i d).index ≡ i
+    index_is i d l = ap (λ (o : Claim). o.index) (claim_is i d l)
 
     pub quotients_fit : 0 < total_weight ws → sum_by (λ (c : Claim). c.quotient) (take (length ws) cs) ≤ a
     quotients_fit some = omega (arith, ap (sum_by (λ (c : Claim). c.quotient)) lines_claims, quotients_are (length ws), quotients_within a ws some)
@@ -86,10 +81,7 @@ module _ (a : ℕ) (ws : List ℕ) where
     left_over : a - sum_by (λ (c : Claim). c.quotient) (take (length ws) cs) ≡ leftover a ws
     left_over = ap (λ x. a - x) (ap (sum_by (λ (c : Claim). c.quotient)) lines_claims ∙ quotients_are (length ws))
 
-    pub inside : (i : ℕ) → i < length (take (length ws) cs) → i < length ws
-    inside i l = omega (arith, as_many)
-
     pub units_are : (i u : ℕ) (d : Claim) → i < length (take (length ws) cs) → u ≡ a - sum_by (λ (c : Claim). c.quotient) (take (length ws) cs) → units (get_or (take (length ws) cs) i d) (take (length ws) cs) u ≡ size a ws i
     units_are i u d l e =
-        ap (λ o. units o (take (length ws) cs) u) (claim_is i d (inside i l))
+        ap (λ o. units o (take (length ws) cs) u) (claim_is i d l)
         ∙ ap₂ (λ x y. quotient a ws i + one (ltb 0 (weight_at ws i) && ltb x y)) (ap (λ xs. before xs (claim_at a ws i)) lines_claims ∙ before_is (length ws) i) (e ∙ left_over)

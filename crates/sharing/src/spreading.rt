@@ -3,7 +3,7 @@ ghost use Rattle.std.specs.Prelude.{◌≡◌, ◌-◌, ◌≤◌, length, sum_b
 ghost use Rattle.amounts.specs.Quotients.{with_sign};
 ghost use Rattle.sharing.specs.Claims.{units};
 ghost use Rattle.sharing.specs.Limits.{WithinLimits, max_amount};
-ghost use Rattle.sharing.specs.Shares.{leftover, part, unshared, written};
+ghost use Rattle.sharing.specs.Shares.{part, unshared, written};
 
 use crate::claims::{Claim, claims_of, gets_extra};
 use crate::weights::total_of;

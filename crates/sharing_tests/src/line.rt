@@ -1,23 +1,10 @@
-// A line for the examples: a weight and an account.
+// A line for the examples: what an account has of a quantity.
 ghost use Rattle.std.specs.Prelude.{◌≡◌};
 
-use sharing::{AccountLine, Weighted};
+use sharing::AccountQuantity;
 
-#[derive(Clone, Copy)]
-pub struct Line(pub i64, pub u8);
-
-impl Weighted for Line {
-    ghost weight = { λ l. l.0 };
-
-    fn weight(&self) -> i64 {
-        self.0
-    }
-}
-
-impl AccountLine for Line {
-    ghost account = { λ l. l.1 };
-
-    fn account(&self) -> u8 {
-        self.1
-    }
+pub fn line<Q>(quantity: Q, account: u8) -> AccountQuantity<Q>
+    ensures { result ≡ record { account = account; quantity = quantity } }
+{
+    AccountQuantity { account, quantity }
 }

@@ -19,9 +19,7 @@ const CASES: [(i64, u64, i64, i64); 10] = [
 #[test]
 fn quotients_by_hand(rt: HostRuntime) -> Result<(), Fail> {
     for (amount, divisor, towards_zero, nearest) in CASES {
-        let Some(by) = Divisor::new(divisor) else {
-            return Err(Fail::new("no divisor"));
-        };
+        let by = Divisor::new(divisor).ok_or_else(|| Fail::new("no divisor"))?;
         assert_eq!(rt; cut(amount, by), towards_zero);
         assert_eq!(rt; rounded(amount, by), nearest);
     }

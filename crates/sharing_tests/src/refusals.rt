@@ -1,29 +1,34 @@
 // Every refusal of a sharing, in the order of the fault table, and that it changes nothing.
-use crate::line::Line;
+use crate::line::line;
 use amounts::{Fault, Layer};
-use sharing::{ShareFault, share};
+use sharing::{Pence, ShareFault, share};
+use std::alloc::AllocError;
 
 #[test]
 fn refused_in_order(rt: HostRuntime) {
     let mut parts = [9; 1];
     assert_eq!(rt;
-        share(7, &[Line(3_000_000_001, 64), Line(1, 3)], &mut parts),
+        share(
+            7,
+            &[line(Pence(3_000_000_001), 64), line(Pence(1), 3)],
+            &mut parts
+        ),
         Err(ShareFault::BeyondLimits)
     );
     assert_eq!(rt;
-        share(-3_000_000_001, &[Line(1, 64)], &mut parts),
+        share(-3_000_000_001, &[line(Pence(1), 64)], &mut parts),
         Err(ShareFault::BeyondLimits)
     );
     assert_eq!(rt;
-        share(7, &[Line(1, 3), Line(1, 3)], &mut parts),
+        share(7, &[line(Pence(1), 3), line(Pence(1), 3)], &mut parts),
         Err(ShareFault::Accounts)
     );
     assert_eq!(rt;
-        share(7, &[Line(1, 64)], &mut parts),
+        share(7, &[line(Pence(1), 64)], &mut parts),
         Err(ShareFault::Accounts)
     );
     assert_eq!(rt;
-        share(7, &[Line(1, 3), Line(1, 4)], &mut parts),
+        share(7, &[line(Pence(1), 3), line(Pence(1), 4)], &mut parts),
         Err(ShareFault::TooFewPlaces)
     );
     assert_eq!(rt; parts, [9]);
@@ -33,7 +38,11 @@ fn refused_in_order(rt: HostRuntime) {
 fn limits_themselves_pass(rt: HostRuntime) {
     let mut parts = [9; 1];
     assert_eq!(rt;
-        share(-3_000_000_000, &[Line(3_000_000_000, 63)], &mut parts),
+        share(
+            -3_000_000_000,
+            &[line(Pence(3_000_000_000), 63)],
+            &mut parts
+        ),
         Ok(0)
     );
     assert_eq!(rt; parts, [-3_000_000_000]);
@@ -53,4 +62,18 @@ fn numbers_and_layers(rt: HostRuntime) {
     assert_eq!(rt; places.place, 0);
     assert!(rt; places.slot.is_none());
     assert!(rt; places.next.is_none());
+}
+
+#[test]
+fn refusals_in_words(rt: HostRuntime) -> Result<(), AllocError> {
+    let accounts = ShareFault::Accounts.refusal();
+    let text = format!(in rt.alloc(); "{accounts}")?;
+    assert_eq!(rt; text.as_str(), "refused by fault 22 of the layer Statement");
+    let of_slot = accounts.with_slot(7);
+    let text = format!(in rt.alloc(); "{of_slot}")?;
+    assert_eq!(rt;
+        text.as_str(),
+        "refused by fault 22 of the layer Statement, slot 7"
+    );
+    Ok(())
 }

@@ -1,11 +1,11 @@
-use Rattle.std.proofs.Common.{◌≡◌, ◌<◌, eqb, length, replicate, set, pos, nat_abs, sym, ap, ◌∙◌, ap₂, arith, rules, w64, to_z, of_z, get_or, take, drop, ◌++◌}
+use Rattle.std.proofs.Common.{◌≡◌, ◌<◌, length, replicate, set, pos, nat_abs, sym, ap, ◌∙◌, ap₂, arith, rules, w64, to_z, of_z, get_or, take, drop, ◌++◌}
 use Rattle.std.proofs.lemmas.Int.{to_z-of_z}
-use Rattle.std.proofs.lemmas.Bool.{cond-true, eq-eqb}
 use Rattle.amounts.specs.Quotients.{with_sign}
 use Rattle.sharing.specs.declared.claims.Claim.{Claim}
-use Rattle.sharing.specs.Shares.{total_weight, size, part, written}
+use Rattle.sharing.specs.Shares.{size, part, written}
+use Rattle.sharing.proofs.Fairness.{unshared_all, unshared_none}
 use Rattle.sharing.proofs.Steps.{size_within, no_total_no_part}
-use Rattle.sharing.proofs.Totals.{total_is, total_fits, some_total, no_total, unshared_none, claim_is, quotients_fit, inside, units_are}
+use Rattle.sharing.proofs.Totals.{total_is, total_fits, some_total, no_total, quotients_fit, inside, index_is, units_are}
 use Rattle.sharing.proofs.Written.{written_more, written_zeros}
 use Rattle.sharing.proofs.spreading.spread.Goals as goal
 
@@ -17,7 +17,7 @@ pub returns-in_default-clause-answer : goal.returns-in_default-clause-answer
 returns-in_default-clause-answer c =
     let ws = c.args.weights.now in
     let z = c.args.amount in
-    to_z-of_z w64 z c.ranges.amount ∙ sym (cond-true (eqb (total_weight ws) 0) z (pos 0) (eq-eqb (total_weight ws) 0 (no_total ws c.total_of.result c.requires.limits c.total_of.ensures c.in_default.ensures.range)))
+    to_z-of_z w64 z c.ranges.amount ∙ sym (unshared_all z ws (no_total ws c.total_of.result c.requires.limits c.total_of.ensures c.in_default.ensures.range))
 
 pub returns-in_default-clause-after : goal.returns-in_default-clause-after
 returns-in_default-clause-after c =
@@ -46,23 +46,18 @@ part_of-requires c =
     let fit = units_are a ws c.claims_of-claims.result is few i c.leftover-leftover.result none c.loop-claim-test.true c.leftover-leftover.ensures in
     omega (arith, fit, size_within a ws (some_total ws c.total_of.result c.in-Some.total.value c.total_of.ensures c.in-Some.ensures.value c.in-Some.total.positive) i (inside a ws c.claims_of-claims.result is few i c.loop-claim-test.true), amount, c.requires.small)
 
--- the claim of an iteration is that of its line
-index_is : (c : goal.After-part_of) → (get_or (take (length c.args.weights.now) c.claims_of-claims.result) c.loop-claim.claim-index none).index ≡ c.loop-claim.claim-index
-index_is c =
-    let a = c.unsigned_abs-size.result in
-    let i = c.loop-claim.claim-index in
-    let few = c.requires.limits.0 in
-    let is = c.claims_of-claims.ensures in
-    ap (λ (o : Claim). o.index) (claim_is a c.args.weights.now c.claims_of-claims.result is few i none (inside a c.args.weights.now c.claims_of-claims.result is few i c.loop-claim-test.true))
+-- the claim of an iteration is that of its line, and has a place
+own_index : (c : goal.After-part_of) → (get_or (take (length c.args.weights.now) c.claims_of-claims.result) c.loop-claim.claim-index none).index ≡ c.loop-claim.claim-index
+own_index c = index_is c.unsigned_abs-size.result c.args.weights.now c.claims_of-claims.result c.claims_of-claims.ensures c.requires.limits.0 c.loop-claim.claim-index none c.loop-claim-test.true
 
-inside_parts : (c : goal.After-part_of) → c.loop-claim.claim-index < length c.args.parts.now
-inside_parts c = omega (arith, inside c.unsigned_abs-size.result c.args.weights.now c.claims_of-claims.result c.claims_of-claims.ensures c.requires.limits.0 c.loop-claim.claim-index c.loop-claim-test.true, c.requires.room)
+own_place : (c : goal.After-part_of) → c.loop-claim.claim-index < length c.args.parts.now
+own_place c = omega (arith, inside c.unsigned_abs-size.result c.args.weights.now c.claims_of-claims.result c.claims_of-claims.ensures c.requires.limits.0 c.loop-claim.claim-index c.loop-claim-test.true, c.requires.room)
 
 pub bounds-parts-claim : goal.bounds-parts-claim
-bounds-parts-claim c = omega (arith, index_is c, inside_parts c, c.loop-claim.auto.parts)
+bounds-parts-claim c = omega (arith, own_index c, own_place c, c.loop-claim.auto.parts)
 
 pub offset_bounds-parts-claim : goal.offset_bounds-parts-claim
-offset_bounds-parts-claim c = let e = index_is c in let l = inside_parts c in search rules
+offset_bounds-parts-claim c = let e = own_index c in let l = own_place c in search rules
 
 pub loop-claim-preserved : goal.loop-claim-preserved
 loop-claim-preserved c =
@@ -74,8 +69,8 @@ loop-claim-preserved c =
     let value : c.part_of.result ≡ part z ws i = c.part_of.ensures ∙ ap (with_sign z) (fit ∙ ap (λ y. size y ws i) c.unsigned_abs-size.ensures.value) in
     let wrote : to_z w64 (of_z w64 c.part_of.result) ≡ part z ws i = to_z-of_z w64 c.part_of.result (record { sfits = c.part_of.type_inv }) ∙ value in
     ap₂ (λ ps v. set ps (get_or (take (length ws) c.claims_of-claims.result) i none).index v) c.loop-claim.invariant wrote
-    ∙ ap (λ k. set (written (part z ws) i c.args.parts.now) k (part z ws i)) (index_is c)
-    ∙ written_more (part z ws) i c.args.parts.now (inside_parts c)
+    ∙ ap (λ k. set (written (part z ws) i c.args.parts.now) k (part z ws i)) (own_index c)
+    ∙ written_more (part z ws) i c.args.parts.now (own_place c)
 
 pub returns-clause-answer : goal.returns-clause-answer
-returns-clause-answer c = unshared_none c.args.amount c.args.weights.now (some_total c.args.weights.now c.total_of.result c.in-Some.total.value c.total_of.ensures c.in-Some.ensures.value c.in-Some.total.positive)
+returns-clause-answer c = sym (unshared_none c.args.amount c.args.weights.now (some_total c.args.weights.now c.total_of.result c.in-Some.total.value c.total_of.ensures c.in-Some.ensures.value c.in-Some.total.positive))
