@@ -35,8 +35,9 @@ impl BlendedTariff {
             return Err(FigureFault::OutOfRange);
         }
         let kwh = Divisor::new(expected_kwh).ok_or(FigureFault::OutOfRange)?;
-        let delivery = u32::try_from(rounded_quotient(THOUSANDTHS * expected_cost, kwh))
-            .map_err(|_| FigureFault::OutOfRange)?;
+        let delivery = u32::try_from(rounded_quotient(THOUSANDTHS * expected_cost, kwh)).map_err(
+            |_| FigureFault::OutOfRange,
+        )?;
         if delivery > MAX_PRICE {
             return Err(FigureFault::OutOfRange);
         }

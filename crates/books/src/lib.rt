@@ -8,8 +8,7 @@ mod fault;
 mod quotient;
 mod rate;
 mod speed;
-mod table_infill;
-mod table_tariff;
+mod table;
 #[cfg(test)]
 mod tests;
 
@@ -19,5 +18,4 @@ pub use book::{InfillBook, TariffBook};
 pub use fault::FigureFault;
 pub use rate::RateInfill;
 pub use speed::Speed;
-pub use table_infill::TableInfill;
-pub use table_tariff::TableTariff;
+pub use table::{TableBook, TableInfill, TableTariff};

@@ -29,7 +29,7 @@ fn journey_fits(kind: MeteredKind, unit: UnitKind) -> bool
     )
 }
 
-// What a slot at that speed consumes.
+// What a slot at that speed consumes. Here and below `as` loses nothing, and a `try_from` would add a case that never comes.
 fn consumption_at(rate: u32, speed: u16) -> u32
     requires rate { rate ≤ max_rate }
     requires speed { speed ≤ max_speed }

@@ -4,7 +4,7 @@ use crate::blended::BlendedTariff;
 use crate::book::{InfillBook, TariffBook};
 use crate::rate::RateInfill;
 use crate::speed::Speed;
-use crate::table_tariff::TableTariff;
+use crate::table::TableTariff;
 use lines::{CategoryLine, Electricity, MeteredKind, OrderedList, TariffLine, UnitKind};
 use std::test::Fail;
 

@@ -1,7 +1,7 @@
 -- What the calls of a list do, from what they read of its memory. Assumes nothing.
-use Rattle.std.proofs.Common.{◌≡◌, ℕ, ◌-◌, ◌<◌, ◌≤◌, min, Bool, true, false, cond, eqb, ltb, List, length, take, drop, is_some, Some, None, Ok, Option, sym, refl, ap, ◌∙◌, subst, ⊎_elim, arith}
+use Rattle.std.proofs.Common.{◌≡◌, ℕ, ◌<◌, true, false, cond, eqb, ltb, List, length, take, is_some, Some, None, Ok, Option, sym, refl, ap, ◌∙◌, subst, arith}
 use Rattle.std.proofs.lemmas.List.{take_min, length-take}
-use Rattle.std.proofs.lemmas.Bool.{cases_lt, cond-true, cond-false, lt-ltb}
+use Rattle.std.proofs.lemmas.Bool.{cond-true, cond-false, lt-ltb}
 use Rattle.lines.specs.Lookups.{Rising, lookup, insertion_point, with_line, with_replaced}
 use Rattle.lines.specs.Outcomes.{to_add, to_replace}
 use Rattle.lines.proofs.Lookups.{rising_with, rising_replaced, lookup_with, lookup_replaced, found_inside}

@@ -1,14 +1,13 @@
 -- Laws of lines in the order of their keys. Assumes nothing.
-use Rattle.std.proofs.Common.{◌≡◌, ℕ, zero, suc, ◌+◌, ◌<◌, ◌≤◌, Bool, true, false, cond, eqb, ltb, leb, List, [], ◌∷◌, length, get_or, take, drop, set, is_some, Some, None, Option, sym, refl, ap, ◌∙◌, subst, inl, inr, le_of_suc-le-suc, arith}
+use Rattle.std.proofs.Common.{◌≡◌, ℕ, zero, suc, ◌+◌, ◌<◌, ◌≤◌, Bool, true, false, cond, eqb, ltb, leb, List, [], ◌∷◌, length, take, drop, set, is_some, Some, None, Option, sym, refl, ap, ◌∙◌, subst, inl, inr, le_of_suc-le-suc, arith}
 use Rattle.std.proofs.lemmas.List.Elements.{All-nil, All-cons, All-append, All-take, All-drop, All-set, All-weaker, All-contains, Contains-append_left, Contains-append_right, Contains-push}
 use Rattle.std.proofs.lemmas.List.Kept.{AllPairs-cons}
-use Rattle.std.proofs.lemmas.List.{at_drop_more, at_drop_all}
 use Rattle.std.proofs.lemmas.Bool.{eq-eqb, ltb-true, ltb-false, lt-ltb, le-ltb, eqb-true, cond-true, cond-false, cond_both, cases_order}
 use Rattle.std.proofs.lemmas.Bool.Decides.{nat_tests}
 use Rattle.std.proofs.lemmas.List.Sums.{prefix_len-le-length}
 use Rattle.std.specs.Bool.{then_some}
 use Rattle.std.specs.Option.{unwrap_or, option_and_then}
-use Rattle.std.specs.List.{insert, find, position, position_or_len, Contains, All, AllPairs}
+use Rattle.std.specs.List.{insert, find, position, position_or_len, Contains, All}
 use Rattle.lines.specs.Lookups.{Rising, scan, lookup, insertion_point, with_line, with_replaced}
 use Rattle.lines.specs.Laws.{LineOf, OneLinePerKey}
 
@@ -131,8 +130,8 @@ module _ {L : Type 0} (key : L → ℕ) where
   rising_with line (x ∷ xs) none up =
       at_point (key line) x xs (λ p. Rising key (insert (x ∷ xs) p line))
       (λ t. rising_cons x (with_line key line xs)
-        (all_inserted (λ y. key x < key y) xs _ line (rising_first x xs up) (ltb-true _ _ t))
-        (rising_with line xs (sym (cond-true (ltb (key x) (key line)) (lookup key (key line) xs) _ t) ∙ none) (rising_rest x xs up)))
+      (all_inserted (λ y. key x < key y) xs _ line (rising_first x xs up) (ltb-true _ _ t))
+      (rising_with line xs (sym (cond-true (ltb (key x) (key line)) (lookup key (key line) xs) _ t) ∙ none) (rising_rest x xs up)))
       (λ t.
       let other : cond (eqb (key x) (key line)) (Some x) None ≡ None = sym (cond-false (ltb (key x) (key line)) (lookup key (key line) xs) _ t) ∙ none in
       let apart : key x ≡ key line → ⊥ = λ e. (let z = cond-true (eqb (key x) (key line)) (Some x) None (eq-eqb _ _ e) in let y : ◌≡◌ {A = ℕ} 0 1 = cc in omega arith) in
@@ -159,8 +158,8 @@ module _ {L : Type 0} (key : L → ℕ) where
   rising_replaced line (x ∷ xs) there up =
       at_point (key line) x xs (λ p. Rising key (set (x ∷ xs) p line))
       (λ t. rising_cons x (with_replaced key line xs)
-        (All-set (λ y. key x < key y) xs _ line (ltb-true _ _ t) (rising_first x xs up))
-        (rising_replaced line xs (ap is_some (sym (cond-true (ltb (key x) (key line)) (lookup key (key line) xs) _ t)) ∙ there) (rising_rest x xs up)))
+      (All-set (λ y. key x < key y) xs _ line (ltb-true _ _ t) (rising_first x xs up))
+      (rising_replaced line xs (ap is_some (sym (cond-true (ltb (key x) (key line)) (lookup key (key line) xs) _ t)) ∙ there) (rising_rest x xs up)))
       (λ t. rising_cons line xs (subst (λ n. All (λ y. n < key y) xs) (first_has_key line x xs t there) (rising_first x xs up)) (rising_rest x xs up))
 
   pub lookup_replaced : (k : ℕ) (line : L) (xs : List L) → is_some (lookup key (key line) xs) ≡ true → lookup key k (with_replaced key line xs) ≡ cond (eqb (key line) k) (Some line) (lookup key k xs)

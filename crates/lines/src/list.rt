@@ -5,8 +5,8 @@ use crate::fault::ListFault;
 use crate::line::Line;
 use crate::position::{insert, line_with_key, position};
 
-// The calls keep the keys rising, each once. That is kept by their contracts and by no invariant: the memory may come with any
-// lines, and a list that is read has the answers of its contracts whatever it holds.
+// The calls keep the keys rising, each once. Their contracts say so, and no invariant does: what a call answers and leaves is
+// defined for every list, also one whose keys do not rise.
 #[derive(Drop)]
 pub struct OrderedList<'a, L> {
     lines: &'a mut [L],

@@ -5,8 +5,8 @@ ghost use Rattle.lines.specs.Lookups.{insertion_point, lookup};
 
 use crate::line::Line;
 
-// How many lines come before the first whose key is not below the wanted one. Every list has that answer, also one whose keys
-// do not rise; a binary search would need that they do, and the order of keys is kept by contracts and not by an invariant.
+// How many lines come before the first whose key is not below the wanted one. The answer is that of every list, also one whose
+// keys do not rise: their order is kept by contracts and not by an invariant, so there is no binary search.
 pub(crate) fn position<L: Line>(lines: &[L], wanted: u64) -> usize
     ensures point { result ≡ insertion_point L.key wanted lines.now }
     ensures within { result ≤ length lines.now }

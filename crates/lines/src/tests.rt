@@ -36,8 +36,8 @@ fn the_line_last_put_is_found(rt: HostRuntime) -> Result<(), Fail> {
     list.add(LossLine::new(2, Electricity::Dc, 250)?)?;
     list.replace(LossLine::new(4, Electricity::Ac, 410)?)?;
     assert_eq!(rt; list.count(), 2);
-    let found = find_loss(&list, 4, Electricity::Ac).ok_or(Fail::new("no loss line"))?;
-    assert_eq!(rt; found.loss(), 410);
+    let found = find_loss(&list, 4, Electricity::Ac);
+    assert_eq!(rt; found.map(|line| line.loss()), Some(410));
     Ok(())
 }
 
