@@ -1,6 +1,6 @@
 // Records that are accepted, and what they say.
 use crate::samples::{HAULED, MULTIPLE_UNIT, TRAIN_MILES};
-use records::{MeteredLeg, ModelledQuantity, Record, read_record};
+use records::{Billing, MeteredLeg, Modelled, ModelledQuantity, Record, read_record};
 use std::test::Fail;
 
 #[test]
@@ -9,19 +9,20 @@ fn hauled_journey(rt: HostRuntime) -> Result<(), Fail> {
         return Err(Fail::new("not metered"));
     };
     assert_eq!(rt; next, 32);
-    assert_eq!(rt; record.billing.account, 5);
-    assert_eq!(rt; record.billing.category, 300);
-    assert_eq!(rt; record.slots, 4);
-    let MeteredLeg::Hauled {
-        weight,
-        locomotives,
-    } = record.leg
-    else {
-        return Err(Fail::new("not hauled"));
+    let billing = Billing {
+        account: 5,
+        area: 7,
+        band: 3,
+        category: 300,
     };
-    assert_eq!(rt; weight, 500);
-    assert_eq!(rt; locomotives, 2);
-    assert!(rt; record.regeneration.is_none());
+    assert_eq!(rt; record.billing, billing);
+    let leg = MeteredLeg::Hauled {
+        weight: 500,
+        locomotives: 2,
+    };
+    assert_eq!(rt; record.leg, leg);
+    assert_eq!(rt; record.slots, 4);
+    assert_eq!(rt; record.regeneration, None);
     let Some(block) = record.consumption else {
         return Err(Fail::new("no consumption"));
     };
@@ -49,13 +50,16 @@ fn two_blocks_with_the_largest_reading(rt: HostRuntime) -> Result<(), Fail> {
 }
 
 #[test]
-fn train_miles(rt: HostRuntime) -> Result<(), Fail> {
-    let Ok(Some((Record::Modelled(record), _))) = read_record(&TRAIN_MILES, 0) else {
-        return Err(Fail::new("not modelled"));
+fn train_miles(rt: HostRuntime) {
+    let billing = Billing {
+        account: 1,
+        area: 0,
+        band: 1,
+        category: 7,
     };
-    let ModelledQuantity::TrainMiles(hundredths) = record.quantity else {
-        return Err(Fail::new("not train miles"));
-    };
-    assert_eq!(rt; hundredths, 150);
-    Ok(())
+    let record = Record::Modelled(Modelled {
+        billing,
+        quantity: ModelledQuantity::TrainMiles(150),
+    });
+    assert_eq!(rt; read_record(&TRAIN_MILES, 0), Ok(Some((record, 13))));
 }
