@@ -10,7 +10,7 @@ pub mod Bounded
 pub mod Machine
 pub mod Pence
 pub mod Fair
-pub mod Lines
+pub mod FromFn
 pub mod OverAll
 pub mod Unless
 pub mod Discrepancies

@@ -1,5 +1,9 @@
--- How far sums of pence can go in a sound block.
+-- How far sums can go in a sound block.
 use Rattle.std.specs.Prelude.{ℕ}
+
+-- the kWh billed to a cell: metered and modelled at their limits
+abbrev pub max_billed_kwh : ℕ
+max_billed_kwh = 6000000000
 
 -- what a cell was billed, in pence: a charge and a volume adjustment at their limits
 abbrev pub max_billed : ℕ
