@@ -3,7 +3,7 @@ use Rattle.std.proofs.Common.{◌≡◌, ℕ, ◌+◌, ◌<◌, Bool, true, fals
 use Rattle.std.specs.List.{position, position_or_len}
 use Rattle.std.specs.Option.{option_map, ok_or}
 use Rattle.std.specs.Result.{result_ok}
-use Rattle.std.proofs.lemmas.Bool.{not-false, eq-eqb, ne_eqb, cases_lt, cond_below, cond_above}
+use Rattle.std.proofs.lemmas.Bool.{not-false, eq-eqb, cases_lt, cond_below, cond_above}
 use Rattle.std.proofs.lemmas.List.Sums.{fails_before_first, passes_at_first}
 use Rattle.amounts.specs.Lowest.{lowest}
 use Rattle.amounts.specs.Ranges.{areas}
@@ -42,19 +42,23 @@ module _ (passes : ℕ → Bool) where
 -- ---- what an answer by tests tells of them
 pub some_if : {A : Type 0} (b : Bool) (x y : A) → Some x ≡ cond b (Some y) None → (b ≡ true) × (x ≡ y)
 some_if true x y e = (refl, cc)
-some_if false x y e = let z : ◌≡◌ {A = ℕ} 0 1 = cc in absurd (omega arith)
+some_if false x y e = (cc, cc)
 
 pub none_if : {A : Type 0} (b : Bool) (y : A) → None ≡ cond b (Some y) None → b ≡ false
-none_if true y e = let z : ◌≡◌ {A = ℕ} 0 1 = cc in absurd (omega arith)
+none_if true y e = cc
 none_if false y e = refl
 
 pub fault_if : {A : Type 0} (o : Option ReconcileFault) (x : A) (f : ReconcileFault) → Err f ≡ unless_fault o x → o ≡ Some f
-fault_if None x f e = let z : ◌≡◌ {A = ℕ} 0 1 = cc in absurd (omega arith)
+fault_if None x f e = cc
 fault_if (Some g) x f e = cc
 
 pub no_fault_if : {A : Type 0} (o : Option ReconcileFault) (x y : A) → Ok y ≡ unless_fault o x → o ≡ None
 no_fault_if None x y e = refl
-no_fault_if (Some g) x y e = let z : ◌≡◌ {A = ℕ} 0 1 = cc in absurd (omega arith)
+no_fault_if (Some g) x y e = cc
+
+pub value_if : {A : Type 0} (o : Option ReconcileFault) (x y : A) → Ok y ≡ unless_fault o x → y ≡ x
+value_if None x y e = cc
+value_if (Some f) x y e = cc
 
 pub made_unless : {A : Type 0} (o : Option ReconcileFault) (x : A) (P : A → Type 0) → P x → IfOk (unless_fault o x) P
 made_unless None x P h = h
@@ -84,21 +88,17 @@ position_is_lowest p rows d =
       | inr l ↦ sym (cond_above i (length rows) (Some i) None None l refl) ∙ none_passes test (length rows) (λ k m. fails_before_first p rows k d (omega arith))
     ]
 
-module _ {R : Type 0} (in_range : R → Bool) (rows : List R) where
-  pub rows_wrong : (d : R) → (length rows ≡ areas → ⊥) → rows_fault in_range d rows ≡ Some fault.SheetLength
-  rows_wrong d e = stopped _ fault.SheetLength _ (ne_eqb (length rows) areas e)
+module _ {R : Type 0} (in_range : R → Bool) (rows : List R) (count : length rows ≡ areas) where
+  pub rows_fault_is : (d : R) → rows_fault in_range d rows ≡ option_map (λ area. fault.AreaFigure area) (position (λ r. not (in_range r)) rows)
+  rows_fault_is d =
+      passed _ fault.SheetLength _ (eq-eqb (length rows) areas count)
+      ∙ ap (option_map (λ area. fault.AreaFigure area)) (ap (lowest (λ i. not (in_range (get_or rows i d)))) (sym count) ∙ sym (position_is_lowest (λ r. not (in_range r)) rows d))
 
-  module _ (count : length rows ≡ areas) where
-    pub rows_fault_is : (d : R) → rows_fault in_range d rows ≡ option_map (λ area. fault.AreaFigure area) (position (λ r. not (in_range r)) rows)
-    rows_fault_is d =
-        passed _ fault.SheetLength _ (eq-eqb (length rows) areas count)
-        ∙ ap (option_map (λ area. fault.AreaFigure area)) (ap (lowest (λ i. not (in_range (get_or rows i d)))) (sym count) ∙ sym (position_is_lowest (λ r. not (in_range r)) rows d))
-
-    pub rows_ranged : position (λ r. not (in_range r)) rows ≡ None → RangedRows in_range rows
-    rows_ranged none = record {
-      count = count;
-      ranged = λ area d l. each_passes (λ i. in_range (get_or rows i d)) areas area (ap (lowest (λ i. not (in_range (get_or rows i d)))) (sym count) ∙ sym (position_is_lowest (λ r. not (in_range r)) rows d) ∙ none) l;
-    }
+  pub rows_ranged : position (λ r. not (in_range r)) rows ≡ None → RangedRows in_range rows
+  rows_ranged none = record {
+    count = count;
+    ranged = λ area d l. each_passes (λ i. in_range (get_or rows i d)) areas area (ap (lowest (λ i. not (in_range (get_or rows i d)))) (sym count) ∙ sym (position_is_lowest (λ r. not (in_range r)) rows d) ∙ none) l;
+  }
 
 pub or_then_twice : (a b c : Option ReconcileFault) → or_then a (or_then b c) ≡ or_then (or_then a b) c
 or_then_twice None b c = refl

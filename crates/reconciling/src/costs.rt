@@ -7,7 +7,7 @@ ghost use Rattle.reconciling.specs.Costs.{delivery_adjustment, delivery_adjustme
 ghost use Rattle.reconciling.specs.Laws.{FairCosts};
 ghost use Rattle.reconciling.specs.Outcomes.{sums_in, volumes_in, unless_fault, delivery_in_limit, delivery_limit_fault, energy_limit_fault, cost_outcome};
 
-use crate::billed::{above, deliveries_in, energies};
+use crate::billed::Billed;
 use crate::cells::CheckedCells;
 use crate::columns::table_by_area;
 use crate::cost_lines::share_over_all;
@@ -34,8 +34,8 @@ fn area_delivery(
     requires { area < areas }
     ensures { result ≡ (if delivery_in_limit cells.now costs.now area then Some (map (λ account. delivery_adjustment (sums_in cells.now) (volumes_in cells.now) costs.now account area) (range_with_len 0 accounts)) else None) }
 {
-    let billed = deliveries_in(cells, area);
-    share_over_all(above(&costs.at(area), &billed), &billed)
+    let billed = Billed::for_delivery(cells, area);
+    share_over_all(billed.shortfall(&costs.at(area)), billed.pence())
 }
 
 // The adjustments of every cell.
@@ -55,8 +55,8 @@ fn energy_adjustments(
 ) -> Result<[i64; ACCOUNTS as usize], ReconcileFault>
     ensures { result ≡ unless_fault (energy_limit_fault cells.now cost.now) (energy_adjustments (sums_in cells.now) (volumes_in cells.now) cost.now) }
 {
-    let billed = energies(cells);
-    share_over_all(above(cost, &billed), &billed).ok_or(ReconcileFault::EnergyBeyondLimits)
+    let billed = Billed::for_energy(cells);
+    share_over_all(billed.shortfall(cost), billed.pence()).ok_or(ReconcileFault::EnergyBeyondLimits)
 }
 
 // The cost adjustments of every cell and account, by the sheet of costs.

@@ -41,10 +41,8 @@ fn discrepancy_of(cells: &CheckedCells<'_>, row: &InRange<AreaRow>, area: usize)
     requires { area < areas }
     ensures { result ≡ discrepancy (sums_in cells.now) row.now area }
 {
-    let billed: [i64; ACCOUNTS as usize] = array::from_fn(|account| billed_kwh(&cells.at(
-        account, area,
-    )));
-    row.get().supplied as i64 - total(&billed)
+    let kwh: [i64; ACCOUNTS as usize] = array::from_fn(|i| billed_kwh(&cells.at(i, area)));
+    row.get().supplied as i64 - total(&kwh)
 }
 
 // Ten-thousandths as kWh, cut towards zero.

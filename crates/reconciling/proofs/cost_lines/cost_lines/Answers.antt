@@ -1,10 +1,10 @@
-use Rattle.std.proofs.Common.{◌≡◌, ℕ, List, map, get_or, ℤ, pos, ap, ◌∙◌, w64, SFits, rules}
+use Rattle.std.proofs.Common.{ℕ, List, map, get_or, ℤ, pos, ap, ◌∙◌, rules}
 use Rattle.std.specs.List.{range_with_len}
 use Rattle.std.proofs.lemmas.List.{map-id}
 use Rattle.amounts.specs.Ranges.{accounts}
 use Rattle.sharing.specs.declared.line.AccountQuantity.{AccountQuantity}
 use Rattle.sharing.specs.declared.quantity.Pence.{Pence}
-use Rattle.reconciling.proofs.Filled.{map_counted, map_by_index}
+use Rattle.reconciling.proofs.Mapped.{map_counted, map_by_index}
 use Rattle.reconciling.proofs.FromFn.{made_by}
 use Rattle.reconciling.proofs.cost_lines.cost_lines.Goals as goal
 

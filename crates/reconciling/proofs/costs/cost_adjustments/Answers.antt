@@ -1,4 +1,4 @@
-use Rattle.std.proofs.Common.{◌≡◌, ℕ, Bool, true, false, List, ℤ, Some, None, Ok, Err, Option, sym, refl, ap, ◌∙◌, subst, ap₂}
+use Rattle.std.proofs.Common.{◌≡◌, ℕ, List, ℤ, Some, None, Ok, Err, Option, sym, refl, ap, ◌∙◌, subst, ap₂}
 use Rattle.std.proofs.lemmas.Result.{err_from_is_err_and, IfOk-from_err}
 use Rattle.ledger.specs.Blocks.{Block, block}
 use Rattle.ledger.specs.Limits.{sound}
@@ -10,9 +10,8 @@ use Rattle.reconciling.specs.declared.fault.ReconcileFault.TheVariants as fault
 use Rattle.reconciling.specs.Costs.{delivery_adjustments, energy_adjustments}
 use Rattle.reconciling.specs.Laws.{FairCosts}
 use Rattle.reconciling.specs.Outcomes.{sums_in, volumes_in, or_then, fault_unless, unless_fault, cost_sheet_fault, delivery_limit_fault, energy_limit_fault, cost_fault, cost_adjustments, cost_outcome}
-use Rattle.reconciling.proofs.Checks.{fault_if, no_fault_if}
+use Rattle.reconciling.proofs.Checks.{fault_if, no_fault_if, value_if}
 use Rattle.reconciling.proofs.FairTables.{fair_costs}
-use Rattle.reconciling.proofs.Unless.{value_if}
 use Rattle.reconciling.proofs.costs.cost_adjustments.Goals as goal
 
 -- a sheet that was checked
@@ -32,13 +31,13 @@ module _ (b : Block) (costs : List ℕ) (energy : ℕ) where
   checked_if : (k : CheckedCosts) → Ok k ≡ unless_fault (cost_sheet_fault costs energy) (checked costs energy) → (cost_sheet_fault costs energy ≡ None) × (k ≡ checked costs energy)
   checked_if k e = (no_fault_if (cost_sheet_fault costs energy) (checked costs energy) k e, value_if (cost_sheet_fault costs energy) (checked costs energy) k e)
 
--- ---- what the two parts answer, of cells and costs that are those of the block and the sheet
-module _ (cells cells' : List Cell) (costs costs' : List ℕ) (energy energy' : ℕ) (same : cells' ≡ cells) where
-  delivery_of : costs' ≡ costs → unless_fault (delivery_limit_fault cells' costs') (delivery_adjustments (sums_in cells') (volumes_in cells') costs') ≡ unless_fault (delivery_limit_fault cells costs) (delivery_adjustments (sums_in cells) (volumes_in cells) costs)
-  delivery_of e = λ i. unless_fault (delivery_limit_fault (same i) (e i)) (delivery_adjustments (sums_in (same i)) (volumes_in (same i)) (e i))
+-- ---- what the two parts answer, of cells that are those of the block
+module _ (cells held : List Cell) (same : held ≡ cells) where
+  delivery_of : (costs given : List ℕ) → given ≡ costs → unless_fault (delivery_limit_fault held given) (delivery_adjustments (sums_in held) (volumes_in held) given) ≡ unless_fault (delivery_limit_fault cells costs) (delivery_adjustments (sums_in cells) (volumes_in cells) costs)
+  delivery_of costs given e = λ i. unless_fault (delivery_limit_fault (same i) (e i)) (delivery_adjustments (sums_in (same i)) (volumes_in (same i)) (e i))
 
-  energy_of : energy' ≡ energy → unless_fault (energy_limit_fault cells' energy') (energy_adjustments (sums_in cells') (volumes_in cells') energy') ≡ unless_fault (energy_limit_fault cells energy) (energy_adjustments (sums_in cells) (volumes_in cells) energy)
-  energy_of e = λ i. unless_fault (energy_limit_fault (same i) (e i)) (energy_adjustments (sums_in (same i)) (volumes_in (same i)) (e i))
+  energy_of : (energy given : ℕ) → given ≡ energy → unless_fault (energy_limit_fault held given) (energy_adjustments (sums_in held) (volumes_in held) given) ≡ unless_fault (energy_limit_fault cells energy) (energy_adjustments (sums_in cells) (volumes_in cells) energy)
+  energy_of energy given e = λ i. unless_fault (energy_limit_fault (same i) (e i)) (energy_adjustments (sums_in (same i)) (volumes_in (same i)) (e i))
 
 pub returns-in_err-cells : goal.returns-in_err-cells
 returns-in_err-cells c =
@@ -76,7 +75,7 @@ returns-in_err-delivery c =
     let p = err_from_is_err_and c.from_residual-in_err-delivery.result c.from_residual-in_err-delivery.ensures.1 in
     let whole = whole_if b costs energy c.in_ok-cells.cells c.in_ok-cells.ensures in
     let sheet = checked_if b costs energy c.in_ok-costs.costs c.in_ok-costs.ensures.answer in
-    let same = delivery_of b.cells c.in_ok-cells.cells costs c.in_ok-costs.costs.delivery energy energy whole.1 (ap (λ (k : CheckedCosts). k.delivery) sheet.1) in
+    let same = delivery_of b.cells c.in_ok-cells.cells whole.1 costs c.in_ok-costs.costs.delivery (ap (λ (k : CheckedCosts). k.delivery) sheet.1) in
     let bad = fault_if (delivery_limit_fault b.cells costs) (delivery_adjustments (sums_in b.cells) (volumes_in b.cells) costs) f (c.in_err-delivery.ensures ∙ same) in
     record {
       answer = p.1 ∙ ap Err p.2 ∙ sym (by_checks b costs energy None None (Some f) (energy_limit_fault b.cells energy) whole.0 sheet.0 bad refl);
@@ -92,8 +91,8 @@ returns-in_err-energy c =
     let p = err_from_is_err_and c.from_residual-in_err-energy.result c.from_residual-in_err-energy.ensures.1 in
     let whole = whole_if b costs energy c.in_ok-cells.cells c.in_ok-cells.ensures in
     let sheet = checked_if b costs energy c.in_ok-costs.costs c.in_ok-costs.ensures.answer in
-    let same = delivery_of b.cells c.in_ok-cells.cells costs c.in_ok-costs.costs.delivery energy energy whole.1 (ap (λ (k : CheckedCosts). k.delivery) sheet.1) in
-    let same_energy = energy_of b.cells c.in_ok-cells.cells costs costs energy c.in_ok-costs.costs.energy whole.1 (ap (λ (k : CheckedCosts). k.energy) sheet.1) in
+    let same = delivery_of b.cells c.in_ok-cells.cells whole.1 costs c.in_ok-costs.costs.delivery (ap (λ (k : CheckedCosts). k.delivery) sheet.1) in
+    let same_energy = energy_of b.cells c.in_ok-cells.cells whole.1 energy c.in_ok-costs.costs.energy (ap (λ (k : CheckedCosts). k.energy) sheet.1) in
     let delivery = no_fault_if (delivery_limit_fault b.cells costs) (delivery_adjustments (sums_in b.cells) (volumes_in b.cells) costs) c.in_ok-delivery.delivery (c.in_ok-delivery.ensures ∙ same) in
     let bad = fault_if (energy_limit_fault b.cells energy) (energy_adjustments (sums_in b.cells) (volumes_in b.cells) energy) f (c.in_err-energy.ensures ∙ same_energy) in
     record {
@@ -114,8 +113,8 @@ returns c =
     let parts = energy_adjustments (sums_in b.cells) (volumes_in b.cells) energy in
     let whole = whole_if b costs energy c.in_ok-cells.cells c.in_ok-cells.ensures in
     let sheet = checked_if b costs energy c.in_ok-costs.costs c.in_ok-costs.ensures.answer in
-    let told = c.in_ok-delivery.ensures ∙ delivery_of b.cells c.in_ok-cells.cells costs c.in_ok-costs.costs.delivery energy energy whole.1 (ap (λ (k : CheckedCosts). k.delivery) sheet.1) in
-    let told_energy = c.in_ok-energy.ensures ∙ energy_of b.cells c.in_ok-cells.cells costs costs energy c.in_ok-costs.costs.energy whole.1 (ap (λ (k : CheckedCosts). k.energy) sheet.1) in
+    let told = c.in_ok-delivery.ensures ∙ delivery_of b.cells c.in_ok-cells.cells whole.1 costs c.in_ok-costs.costs.delivery (ap (λ (k : CheckedCosts). k.delivery) sheet.1) in
+    let told_energy = c.in_ok-energy.ensures ∙ energy_of b.cells c.in_ok-cells.cells whole.1 energy c.in_ok-costs.costs.energy (ap (λ (k : CheckedCosts). k.energy) sheet.1) in
     let delivery = no_fault_if (delivery_limit_fault b.cells costs) table c.in_ok-delivery.delivery told in
     let network = no_fault_if (energy_limit_fault b.cells energy) parts c.in_ok-energy.energy told_energy in
     let same : both c.in_ok-delivery.delivery c.in_ok-energy.energy ≡ cost_adjustments b.cells costs energy =

@@ -1,4 +1,4 @@
-use Rattle.std.proofs.Common.{◌≡◌, ℕ, List, length, Some, None, Ok, Err, sym, ap, ◌∙◌, ap₂}
+use Rattle.std.proofs.Common.{◌≡◌, ℕ, List, length, None, Ok, Err, sym, ap, ◌∙◌, ap₂}
 use Rattle.std.specs.Prelude.{◌==◌}
 use Rattle.std.proofs.lemmas.Result.{err_from_is_err_and}
 use Rattle.amounts.specs.Ranges.{areas}
@@ -6,8 +6,7 @@ use Rattle.reconciling.specs.declared.fault.ReconcileFault.TheVariants as fault
 use Rattle.reconciling.specs.declared.sheets.CheckedCosts.{CheckedCosts}
 use Rattle.reconciling.specs.Outcomes.{or_then, fault_unless, lowest_area, unless_fault, rows_fault, cost_sheet_fault}
 use Rattle.reconciling.specs.Sheets.{cost_in_range, cost_at}
-use Rattle.reconciling.proofs.Checks.{fault_if, no_fault_if, ok_or_ok, ok_or_err, or_then_twice}
-use Rattle.reconciling.proofs.Unless.{value_if}
+use Rattle.reconciling.proofs.Checks.{fault_if, no_fault_if, ok_or_ok, ok_or_err, or_then_twice, value_if}
 use Rattle.reconciling.proofs.sheets.check_cost_sheet.Goals as goal
 
 abbrev checked : List ℕ → ℕ → CheckedCosts

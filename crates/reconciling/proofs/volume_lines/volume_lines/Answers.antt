@@ -1,10 +1,10 @@
-use Rattle.std.proofs.Common.{◌≡◌, ℕ, ◌+◌, List, map, ap, ◌∙◌, rules}
+use Rattle.std.proofs.Common.{ℕ, ◌+◌, List, map, ap, ◌∙◌, rules}
 use Rattle.ledger.specs.declared.block.Cell.{Cell}
 use Rattle.sharing.specs.declared.line.AccountQuantity.{AccountQuantity}
 use Rattle.sharing.specs.declared.quantity.Kwh.{Kwh}
 use Rattle.reconciling.specs.Outcomes.{sums_in}
 use Rattle.reconciling.specs.Volumes.{volume_weight, operator_weights}
-use Rattle.reconciling.proofs.Filled.{map_counted, map_counted_from}
+use Rattle.reconciling.proofs.Mapped.{map_counted, map_counted_from}
 use Rattle.reconciling.proofs.FromFn.{made_by}
 use Rattle.reconciling.proofs.volume_lines.volume_lines.Goals as goal
 

@@ -1,4 +1,4 @@
-use Rattle.std.proofs.Common.{◌≡◌, ℕ, ◌<◌, true, List, map, get_or, ℤ, pos, nat_abs, Some, None, sym, ap, ◌∙◌, subst, arith}
+use Rattle.std.proofs.Common.{◌≡◌, true, map, get_or, pos, nat_abs, Some, None, sym, ap, ◌∙◌, arith}
 use Rattle.std.specs.List.{range_with_len}
 use Rattle.std.proofs.lemmas.List.FromFn.{get_or-map-range_with_len}
 use Rattle.std.proofs.lemmas.Bool.{cond-true, cond-false, leb-true}
@@ -10,7 +10,7 @@ use Rattle.reconciling.specs.Sheets.{zero_row, row_at}
 use Rattle.reconciling.specs.Volumes.{discrepancy, volume_kwh, priced_adjustment, volume_adjustment}
 use Rattle.reconciling.proofs.Areas.{volume_kwh_le}
 use Rattle.reconciling.proofs.Checks.{some_if, none_if}
-use Rattle.reconciling.proofs.Filled.{map_counted}
+use Rattle.reconciling.proofs.Mapped.{map_counted}
 use Rattle.reconciling.proofs.volumes.area_adjustments.Goals as goal
 use Rattle.reconciling.proofs.volumes.area_adjustments.Goals.{In_ok-kwh}
 

@@ -1,8 +1,7 @@
-use Rattle.std.proofs.Common.{◌≡◌, List, IfOk, Some, None, Ok, Err, Option, sym, refl, ap, ◌∙◌, subst}
+use Rattle.std.proofs.Common.{◌≡◌, List, IfOk, Some, None, Err, Option, sym, refl, ap, ◌∙◌, subst}
 use Rattle.std.proofs.lemmas.Result.{err_from_is_err_and, IfOk-from_err}
 use Rattle.ledger.specs.Blocks.{Block, block}
 use Rattle.ledger.specs.Limits.{sound}
-use Rattle.ledger.specs.declared.block.Cell.{Cell}
 use Rattle.reconciling.specs.declared.fault.ReconcileFault.{ReconcileFault}
 use Rattle.reconciling.specs.declared.fault.ReconcileFault.TheVariants as fault
 use Rattle.reconciling.specs.declared.sheets.AreaRow.{AreaRow}
@@ -10,8 +9,7 @@ use Rattle.reconciling.specs.Laws.{FairVolumes}
 use Rattle.reconciling.specs.Outcomes.{sums_in, or_then, fault_unless, unless_fault, area_sheet_fault, volume_limit_fault, volume_fault, volume_outcome}
 use Rattle.reconciling.specs.Volumes.{volume_adjustments}
 use Rattle.reconciling.proofs.FairTables.{fair_volumes}
-use Rattle.reconciling.proofs.Checks.{fault_if, no_fault_if, made_unless}
-use Rattle.reconciling.proofs.Unless.{value_if}
+use Rattle.reconciling.proofs.Checks.{fault_if, no_fault_if, made_unless, value_if}
 use Rattle.reconciling.proofs.volumes.volume_adjustments.Goals as goal
 
 -- ---- the outcome, by the checks in their order
