@@ -1,4 +1,3 @@
-pub mod Products
 pub mod Sums
 pub mod Relations
 pub mod Forward
