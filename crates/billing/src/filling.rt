@@ -42,6 +42,7 @@ fn hauled_value(value: u32, weight: u16, locomotives: u8) -> u64
     ensures value { result ≡ hauled_value value weight locomotives }
     ensures bound { result ≤ max_slot_value }
 {
+    // One locomotive at least, so the divisor is there; no narrower number type holds the product without a cast.
     let Some(divisor) = Divisor::new(THOUSANDTHS * u64::from(locomotives)) else {
         unreachable!()
     };
@@ -85,6 +86,7 @@ pub(crate) fn total_filled(block: Option<ReadingBlock>, slots: u8, fill: u64) ->
     ensures value { result ≡ sum (filled (option_map described_block block.entry) slots fill) }
     ensures bound { result ≤ max_net }
 {
+    // No closure of `map_or`: it would have to be told again what the slots and the block are known to keep to.
     match block {
         None => u64::from(slots) * fill,
         Some(block) => {

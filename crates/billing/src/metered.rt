@@ -32,6 +32,7 @@ fn fill_values<I: InfillBook>(
     };
     let billing = metered.billing();
     let kind = kind_of(metered.leg());
+    // `let else`, as the project asks where an infill book may have no pair.
     let Some(values) = infill.values(kind, billing.category, billing.area, billing.band) else {
         return Err(BookFault::MissingReading {
             place: span.place,
