@@ -86,7 +86,7 @@ pub(crate) fn total_filled(block: Option<ReadingBlock>, slots: u8, fill: u64) ->
     ensures value { result ≡ sum (filled (option_map described_block block.entry) slots fill) }
     ensures bound { result ≤ max_net }
 {
-    // No closure of `map_or`: it would have to be told again what the slots and the block are known to keep to.
+    // A match: for a closure of `map_or` the check asks for the sum's range as a fact on memory, which found no short proof.
     match block {
         None => u64::from(slots) * fill,
         Some(block) => {
