@@ -2,5 +2,6 @@ pub mod Products
 pub mod Sums
 pub mod Relations
 pub mod Forward
+pub mod Elsewhere
 pub mod Lawful
 pub mod Searches

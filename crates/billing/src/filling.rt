@@ -5,15 +5,14 @@ ghost use Rattle.books.specs.Answers.{ValuesInRange};
 ghost use Rattle.records.specs.Blocks.{described_block, has_reading};
 ghost use Rattle.records.specs.Laws.{BlockRanged, LegRanged, LoadRanged};
 ghost use Rattle.records.specs.Limits.{max_slots};
-ghost use Rattle.records.specs.Records.{described_metered};
 ghost use Rattle.lines.specs.Limits.{max_infill};
 ghost use Rattle.billing.specs.Limits.{max_slot_value, max_net};
-ghost use Rattle.billing.specs.Filling.{kind_of, hauled_value, fill_consumption, fill_regeneration, Whole, filled, asks_regeneration, needs_value, first_needing};
+ghost use Rattle.billing.specs.Filling.{kind_of, hauled_value, fill_consumption, fill_regeneration, Whole, filled, asks_regeneration};
 
 use amounts::{Divisor, rounded};
 use books::SlotValues;
 use lines::MeteredKind;
-use records::{Metered, MeteredLeg, ReadingBlock};
+use records::{MeteredLeg, ReadingBlock};
 
 // Thousandths in a Wh.
 const THOUSANDTHS: u64 = 1_000;
@@ -43,6 +42,7 @@ fn hauled_value(value: u32, weight: u16, locomotives: u8) -> u64
     ensures value { result ≡ hauled_value value weight locomotives }
     ensures bound { result ≤ max_slot_value }
 {
+    // One locomotive at least, so the divisor is there; no narrower number type holds the product without a cast.
     let Some(divisor) = Divisor::new(THOUSANDTHS * u64::from(locomotives)) else {
         unreachable!()
     };
@@ -86,6 +86,7 @@ pub(crate) fn total_filled(block: Option<ReadingBlock>, slots: u8, fill: u64) ->
     ensures value { result ≡ sum (filled (option_map described_block block.entry) slots fill) }
     ensures bound { result ≤ max_net }
 {
+    // A match: for a closure of `map_or` the check asks for the sum's range as a fact on memory, which found no short proof.
     match block {
         None => u64::from(slots) * fill,
         Some(block) => {
@@ -95,30 +96,15 @@ pub(crate) fn total_filled(block: Option<ReadingBlock>, slots: u8, fill: u64) ->
     }
 }
 
-fn has_reading(block: Option<ReadingBlock>, slot: u8) -> bool
+pub(crate) fn has_reading(block: Option<ReadingBlock>, slot: u8) -> bool
     ensures { result ≡ has_reading (option_map described_block block.entry) slot }
 {
     block.is_some_and(|block| block.has_reading(slot))
 }
 
 // Whether a book is asked for missing regeneration.
-fn asks_regeneration(leg: MeteredLeg) -> bool
+pub(crate) fn asks_regeneration(leg: MeteredLeg) -> bool
     ensures { result ≡ asks_regeneration leg }
 {
     !matches!(leg, MeteredLeg::NonJourney)
-}
-
-// Whether a missing reading of the slot needs a value.
-fn needs_value(metered: Metered, slot: u8) -> bool
-    ensures { result ≡ needs_value (described_metered metered.entry) slot }
-{
-    !has_reading(metered.consumption, slot)
-        || asks_regeneration(metered.leg) && !has_reading(metered.regeneration, slot)
-}
-
-// The lowest slot that needs a value.
-pub(crate) fn first_needing(metered: Metered) -> Option<u8>
-    ensures { result ≡ first_needing (described_metered metered.entry) }
-{
-    (0..metered.slots).find(|slot| needs_value(metered, *slot))
 }

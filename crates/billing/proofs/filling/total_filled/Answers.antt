@@ -3,7 +3,7 @@ use Rattle.std.specs.Option.{option_map}
 use Rattle.records.specs.Blocks.{described_block}
 use Rattle.records.specs.Laws.{BlockRanged}
 use Rattle.billing.specs.Filling.{Whole, filled}
-use Rattle.billing.specs.Limits.{max_slot_value, max_net}
+use Rattle.billing.specs.Limits.{max_net}
 use Rattle.billing.proofs.Sums.{filled_none, count_within, filled_block, filled_bound}
 use Rattle.billing.proofs.filling.total_filled.Goals as goal
 
