@@ -1,5 +1,5 @@
 -- How a post ends, by its steps: o is what billing the record at p answers.
-use Rattle.std.proofs.Common.{◌≡◌, ℕ, Bool, true, false, cond, List, Ok, Err, Result, sym, refl, ap, ◌∙◌, arith}
+use Rattle.std.proofs.Common.{◌≡◌, ℕ, Bool, true, false, cond, List, Ok, Err, Result, sym, refl, ap, ◌∙◌}
 use Rattle.std.proofs.lemmas.Bool.{cond-true, cond-false}
 use Rattle.billing.specs.Bills.{Sources, bill_at}
 use Rattle.billing.specs.declared.bill.Bill.{Bill}
@@ -15,15 +15,16 @@ use Rattle.ledger.specs.declared.block.Cell.{Cell}
 use Rattle.year.specs.declared.states.OpenYear.{OpenYear}
 use Rattle.year.specs.Outcomes.{with_bill, within_cell, next_of, cells_after, post_outcome, post_memory}
 use Rattle.year.specs.Promises.{post_answer, open_at, one_more}
+use Rattle.year.proofs.Outcomes.{accepted_refused}
 
 -- ---- what an answer by a test says of the test
 pub refused_by : (t : Bool) (s e : LedgerFault) → ◌≡◌ {A = Result (Unit {0}) LedgerFault} (Err e) (cond t (Ok tt) (Err s)) → (t ≡ false) × (e ≡ s)
-refused_by true s e h = absurd (let z : ◌≡◌ {A = ℕ} 0 1 = cc in omega arith)
+refused_by true s e h = accepted_refused tt e (sym h)
 refused_by false s e h = (refl, cc)
 
 pub accepted_by : (t : Bool) (s : LedgerFault) (u : Unit {0}) → ◌≡◌ {A = Result (Unit {0}) LedgerFault} (Ok u) (cond t (Ok tt) (Err s)) → t ≡ true
 accepted_by true s u h = refl
-accepted_by false s u h = absurd (let z : ◌≡◌ {A = ℕ} 0 1 = cc in omega arith)
+accepted_by false s u h = accepted_refused u s h
 
 -- ---- billing the record at p
 module _ (m : Sources) (cells : List Cell) (rows : List AccountRecord) (xs : List ℕ) (p : ℕ) where
@@ -74,10 +75,10 @@ module _ (m : Sources) (cells : List Cell) (rows : List AccountRecord) (xs : Lis
 module _ (y : OpenYear) where
   pub accepts : (o : Result Bill PostFault) (n : ℕ) → Ok n ≡ next_of o → Ok (open_at (one_more y.accepted), n) ≡ post_answer y o
   accepts (Ok x) n e = let h : n ≡ x.next = cc in ap (λ k. Ok (open_at (one_more y.accepted), k)) h
-  accepts (Err f) n e = absurd (let z : ◌≡◌ {A = ℕ} 0 1 = cc in omega arith)
+  accepts (Err f) n e = accepted_refused n f e
 
   pub refuses : (o : Result Bill PostFault) (f : PostFault) → Err f ≡ next_of o → Err (y, f) ≡ post_answer y o
-  refuses (Ok x) f e = absurd (let z : ◌≡◌ {A = ℕ} 0 1 = cc in omega arith)
+  refuses (Ok x) f e = accepted_refused x.next f (sym e)
   refuses (Err g) f e = let h : f ≡ g = cc in ap (λ k. Err (y, k)) h
 
 pub kept_as : (b : Block) (o : Result Bill PostFault) → block (cells_after b.cells o) b.accounts ≡ post_memory b o
