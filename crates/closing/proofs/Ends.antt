@@ -1,5 +1,5 @@
 -- How closing ends, by what the reconciliations answer.
-use Rattle.std.proofs.Common.{◌≡◌, ℕ, List, Ok, Err, Result, MatchResult, sym, ap, subst, arith}
+use Rattle.std.proofs.Common.{◌≡◌, ℕ, List, Ok, Err, Result, MatchResult, sym, ap, subst, ◌∙◌}
 use Rattle.std.specs.Result.{IsErrAnd}
 use Rattle.billing.specs.Bills.{Sources}
 use Rattle.ledger.specs.Blocks.{Block}

@@ -1,5 +1,5 @@
 -- A refused reconciliation has its ground in the block as it is left.
-use Rattle.std.proofs.Common.{◌≡◌, ℕ, List, Some, None, Err, Option, sym, ap, subst, arith}
+use Rattle.std.proofs.Common.{◌≡◌, ℕ, List, Some, None, Err, Option, sym, ap, subst}
 use Rattle.ledger.specs.Blocks.{Block}
 use Rattle.reconciling.specs.Outcomes.{sums_in, unless_fault, volume_fault, volume_outcome, cost_fault, cost_outcome, cost_adjustments}
 use Rattle.reconciling.specs.Volumes.{volume_adjustments}
