@@ -1,10 +1,11 @@
 -- How closing ends, by what the reconciliations answer.
-use Rattle.std.proofs.Common.{◌≡◌, ℕ, List, Ok, Err, Result, MatchResult, sym, ap, subst, arith}
+use Rattle.std.proofs.Common.{◌≡◌, ℕ, List, Ok, Err, Result, MatchResult, sym, ap, subst, ◌∙◌}
 use Rattle.std.specs.Result.{IsErrAnd}
 use Rattle.billing.specs.Bills.{Sources}
 use Rattle.ledger.specs.Blocks.{Block}
 use Rattle.reconciling.specs.declared.fault.ReconcileFault.{ReconcileFault}
 use Rattle.reconciling.specs.declared.sheets.AreaRow.{AreaRow}
+use Rattle.year.proofs.Outcomes.{accepted_refused}
 use Rattle.year.specs.Promises.{ReconcilesVolume, ReconcilesCost}
 use Rattle.year.specs.Settlements.{YearSettles}
 use Rattle.year.specs.Steps.{VolumeExtends, CostExtends}
@@ -26,7 +27,7 @@ mapped h (Err e) (Err d) P made is = ap Err (made e d is)
 pub was_ok : {A E D : Type 0} (r : Result A E) (s : Result A D) (P : E → D → Type 0) (z : A) → MatchResult r (λ x. s ≡ Ok x) (λ e. IsErrAnd s (P e)) → s ≡ Ok z → r ≡ Ok z
 was_ok (Ok x) s P z is e = cc
 was_ok (Err f) (Ok y) P z is e = absurd is
-was_ok (Err f) (Err d) P z is e = absurd (let q : ◌≡◌ {A = ℕ} 0 1 = cc in omega arith)
+was_ok (Err f) (Err d) P z is e = accepted_refused z d (sym e)
 
 abbrev pub volume_of : OpenYear × ReconcileFault → CloseFault
 volume_of s = Volume s.1
@@ -36,7 +37,7 @@ cost_of s = Cost s.1
 
 module _ {m : Sources} {xs : List ℕ} {sheet : List AreaRow} (costs : List ℕ) (energy : ℕ) (before : Block) {b after : Block} where
   pub volume_ends : {y : OpenYear} (r : Result VolumeSettledYear (OpenYear × ReconcileFault)) (s : Result VolumeSettledYear CloseFault) (f : CloseFault) → MatchResult r (λ x. s ≡ Ok x) (λ e. s ≡ Err (volume_of e)) → s ≡ Err f → AllPosted m xs y b → ReconcilesVolume y b sheet r after → VolumeExtends y b sheet r after → Closes m xs sheet costs energy before (Err f) after
-  volume_ends (Ok z) s f is fails all p more = absurd (let q : ◌≡◌ {A = ℕ} 0 1 = cc in omega arith)
+  volume_ends (Ok z) s f is fails all p more = accepted_refused z f (sym is ∙ fails)
   volume_ends (Err e) s f is fails all p more =
       let same : f ≡ Volume e.1 = cc in
       subst (λ k. Closes m xs sheet costs energy before (Err k) after) (sym same)

@@ -1,4 +1,4 @@
-// Opening a year.
+// Opening a year over a block, which is two slices that the caller lends: the cells, and the account records.
 ghost use Rattle.ledger.specs.Blocks.{block};
 ghost use Rattle.year.specs.Promises.{Opens};
 ghost use Rattle.year.specs.Steps.{OpenBegins};

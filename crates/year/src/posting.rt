@@ -1,10 +1,9 @@
 // Posting a record to an open year.
 ghost use Rattle.std.specs.Prelude.{◌≡◌, length};
-ghost use Rattle.billing.specs.Bills.{bill_at};
 ghost use Rattle.billing.specs.Tables.{sources_of};
-ghost use Rattle.ledger.specs.Blocks.{block, cell_count};
+ghost use Rattle.ledger.specs.Blocks.{block};
 ghost use Rattle.year.specs.Forward.{PostGoesForward};
-ghost use Rattle.year.specs.Outcomes.{within_cell, next_of, cells_after};
+ghost use Rattle.year.specs.Outcomes.{post_outcome, next_of, cells_after};
 ghost use Rattle.year.specs.Promises.{Posts};
 ghost use Rattle.year.specs.Steps.{PostExtends};
 
@@ -14,17 +13,20 @@ use billing::{LedgerFault, PostFault, Tables, bill_record};
 use books::{InfillBook, TariffBook};
 use ledger::{AccountRecord, Cell, block_is_sound};
 
-// What a post does once its block is known to be sound.
-fn post_checked<T: TariffBook, I: InfillBook>(
+// Bills the record at `place` into its cell, if the block is sound, and answers where the next record begins.
+fn post_bill<T: TariffBook, I: InfillBook>(
     cells: &mut [Cell],
+    accounts: &[AccountRecord],
     tables: &Tables<T, I>,
     batch: &[u8],
     place: usize,
 ) -> Result<usize, PostFault>
-    requires { length cells.old ≡ cell_count }
-    ensures answer { result ≡ next_of (within_cell cells.old place (bill_at (sources_of T.prices I.values tables.now) batch.now place)) }
-    ensures after { cells.new ≡ cells_after cells.old (within_cell cells.old place (bill_at (sources_of T.prices I.values tables.now) batch.now place)) }
+    ensures answer { result ≡ next_of (post_outcome (sources_of T.prices I.values tables.now) (block cells.old accounts.now) batch.now place) }
+    ensures after { cells.new ≡ cells_after cells.old (post_outcome (sources_of T.prices I.values tables.now) (block cells.old accounts.now) batch.now place) }
 {
+    if !block_is_sound(cells, accounts) {
+        return Err(PostFault::from(LedgerFault::Block));
+    }
     let bill = bill_record(tables, batch, place)?;
     enter(cells, place, bill)?;
     Ok(bill.next)
@@ -45,11 +47,8 @@ impl OpenYear {
         ensures run { PostExtends (sources_of T.prices I.values tables.now) self (block cells.old accounts.now) batch.now place result (block cells.new accounts.now) }
         ensures forward { PostGoesForward (length batch.now) place result }
     {
-        if !block_is_sound(cells, accounts) {
-            return Err((self, PostFault::Ledger(LedgerFault::Block)));
-        }
         // Both arms hand the year on, and a closure of `map_err` would take it from the other.
-        match post_checked(cells, tables, batch, place) {
+        match post_bill(cells, accounts, tables, batch, place) {
             Ok(next) => {
                 let accepted = self.accepted.saturating_add(1);
                 Ok((OpenYear { accepted }, next))
