@@ -44,8 +44,8 @@ pub(crate) fn claims_of(size: u64, weights: &[u64], total: Divisor) -> [Claim; M
 }
 
 // Whether `other` takes part and has the larger remainder, or an equal one and comes earlier.
-fn comes_before(other: Claim, own: Claim) -> bool
-    ensures { result ≡ comes_before other own }
+fn comes_before(other: &Claim, own: &Claim) -> bool
+    ensures { result ≡ comes_before other.now own.now }
 {
     other.weight > 0
         && (other.remainder > own.remainder
@@ -53,12 +53,12 @@ fn comes_before(other: Claim, own: Claim) -> bool
 }
 
 // Whether the claim gets one of the units left over.
-pub(crate) fn gets_extra(own: Claim, claims: &[Claim], leftover: u64) -> bool
-    ensures { result ≡ has_extra own claims.now leftover }
+pub(crate) fn gets_extra(own: &Claim, claims: &[Claim], leftover: u64) -> bool
+    ensures { result ≡ has_extra own.now claims.now leftover }
 {
     let rank = claims
         .iter()
-        .filter(|other| comes_before(**other, own))
+        .filter(|other| comes_before(other, own))
         .count();
     own.weight > 0 && (rank as u64) < leftover
 }

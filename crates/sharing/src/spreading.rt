@@ -30,9 +30,9 @@ fn leftover(size: u64, claims: &[Claim]) -> u64
 }
 
 // The part of the amount that the claim gets.
-fn part_of(amount: i64, own: Claim, claims: &[Claim], leftover: u64) -> i64
-    requires { units own claims.now leftover ≤ max_amount }
-    ensures { result ≡ with_sign amount (units own claims.now leftover) }
+fn part_of(amount: i64, own: &Claim, claims: &[Claim], leftover: u64) -> i64
+    requires { units own.now claims.now leftover ≤ max_amount }
+    ensures { result ≡ with_sign amount (units own.now claims.now leftover) }
 {
     let extra = u64::from(gets_extra(own, claims, leftover));
     with_sign(amount, own.quotient + extra)
@@ -55,7 +55,7 @@ pub(crate) fn spread(amount: i64, weights: &[u64], parts: &mut [i64]) -> i64
     let claims = &claims[..weights.len()];
     let leftover = leftover(size, claims);
     for claim in claims {
-        parts[claim.index] = part_of(amount, *claim, claims, leftover);
+        parts[claim.index] = part_of(amount, claim, claims, leftover);
     }
     0
 }
