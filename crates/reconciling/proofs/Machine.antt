@@ -1,5 +1,5 @@
 -- Sums as the machine has them, where no sum can overflow.
-use Rattle.std.proofs.Common.{◌≡◌, ℕ, ◌+◌, ◌*◌, ◌^◌, ◌<◌, ◌≤◌, ℤ, pos, ◌+ℤ◌, ◌-ℤ◌, nat_abs, sym, ap, ◌∙◌, ap₂, arith, w64, SFits, to_z, of_z}
+use Rattle.std.proofs.Common.{◌≡◌, ℕ, zero, suc, ◌+◌, ◌*◌, ◌^◌, ◌<◌, ◌≤◌, ℤ, pos, ◌+ℤ◌, ◌-ℤ◌, nat_abs, sym, ap, ◌∙◌, ap₂, arith, w64, SFits, to_z, of_z}
 use borrow.Author.Differences.{ints}
 use Rattle.amounts.specs.Sums.{int_sum_to}
 use Rattle.amounts.proofs.Sums.{int_sum_to_more}
@@ -44,3 +44,8 @@ module _ (n : ℕ) (t s : ℤ) (is : t ≡ s) (m : ℕ) (small : nat_abs t ≤ m
 
   pub less_is : to_z w64 (of_z w64 (to_z w64 n -ℤ t)) ≡ pos n -ℤ s
   less_is = omega (arith, ints)
+
+-- ---- sums of figures none of which is beyond k
+pub sum_within : (f : ℕ → ℤ) (k n : ℕ) → ((i : ℕ) → i < n → nat_abs (f i) ≤ k) → nat_abs (int_sum_to f n) ≤ n * k
+sum_within f k zero h = omega arith
+sum_within f k (suc n) h = let front = sum_within f k n (λ i l. h i (omega arith)) in let last = h n (omega arith) in omega (arith, ints)

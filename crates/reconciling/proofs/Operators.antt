@@ -10,7 +10,7 @@ use Rattle.sharing.specs.Outcomes.{outcome, parts_after}
 use Rattle.sharing.specs.Shares.{part, unshared, total_weight}
 use Rattle.sharing.proofs.Outcomes.{ends_at_limits, ends_shared}
 use Rattle.reconciling.specs.Sharing.{that_count, over_operators}
-use Rattle.reconciling.proofs.Filled.{map_counted_from}
+use Rattle.reconciling.proofs.Mapped.{map_counted_from}
 
 same_ok : (u v : ℤ) (f : ShareFault) → ◌≡◌ {A = Result ℤ ShareFault} (Ok u) (Ok v) → u ≡ v
 same_ok u v f e = cc

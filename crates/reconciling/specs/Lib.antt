@@ -1,3 +1,5 @@
+pub mod Rows
+pub mod Columns
 pub mod Sheets
 pub mod Limits
 pub mod Sharing

@@ -1,5 +1,5 @@
 -- What a reconciliation of a block answers: the first fault of the table that applies, or the adjustments.
-use Rattle.std.specs.Prelude.{ℕ, Bool, cond, not, List, length, Some, None, Ok, Err, Option, Result, ◌==◌}
+use Rattle.std.specs.Prelude.{ℕ, Bool, cond, not, List, length, Some, None, Ok, Err, Option, Result, ◌==◌, slice_index_or}
 use Rattle.std.specs.Option.{option_map}
 use Rattle.amounts.specs.Lowest.{lowest}
 use Rattle.amounts.specs.Ranges.{areas, within}
@@ -39,6 +39,12 @@ lowest_area passes f = option_map f (lowest (λ area. not (passes area)) areas)
 abbrev pub unless_fault : {A : Type 0} → Option ReconcileFault → A → Result A ReconcileFault
 unless_fault None x = Ok x
 unless_fault (Some f) x = Err f
+
+-- a wrong length first, then the lowest area whose row is out of range, where d stands for a row that is not there
+abbrev pub rows_fault : {R : Type 0} → (R → Bool) → R → List R → Option ReconcileFault
+rows_fault in_range d rows =
+    or_then (fault_unless (length rows == areas) fault.SheetLength)
+    (lowest_area (λ area. in_range (slice_index_or rows area d)) (λ area. fault.AreaFigure area))
 
 -- ---- volume
 -- a wrong length first, then the lowest area with a figure out of range

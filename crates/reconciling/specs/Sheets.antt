@@ -1,7 +1,8 @@
 -- The sheets that a year is reconciled with, and the ranges of their figures.
-use Rattle.std.specs.Prelude.{◌≡◌, ℕ, ◌<◌, Bool, true, ◌&&◌, List, length, nat_le, slice_index, slice_index_or}
-use Rattle.amounts.specs.Ranges.{areas, price_in_range}
+use Rattle.std.specs.Prelude.{ℕ, Bool, ◌&&◌, List, nat_le, slice_index, slice_index_or}
+use Rattle.amounts.specs.Ranges.{price_in_range}
 use Rattle.reconciling.specs.declared.sheets.AreaRow.{AreaRow}
+use Rattle.reconciling.specs.Rows.{RangedRows}
 
 -- the most kWh supplied to an area
 abbrev pub max_supplied : ℕ
@@ -32,10 +33,8 @@ abbrev pub cost_at : List ℕ → ℕ → ℕ
 cost_at costs area = slice_index costs area
 
 -- sheets with a row for each area, and every figure in its range
-pub record AreaSheet (sheet : List AreaRow) : Type 0 where
-  pub count : length sheet ≡ areas
-  pub ranged : (area : ℕ) → area < areas → row_in_range (row_at sheet area) ≡ true
+abbrev pub AreaSheet : List AreaRow → Type 0
+AreaSheet sheet = RangedRows row_in_range sheet
 
-pub record DeliveryCosts (costs : List ℕ) : Type 0 where
-  pub count : length costs ≡ areas
-  pub ranged : (area : ℕ) → area < areas → cost_in_range (cost_at costs area) ≡ true
+abbrev pub DeliveryCosts : List ℕ → Type 0
+DeliveryCosts costs = RangedRows cost_in_range costs

@@ -1,12 +1,19 @@
 // A table with an entry for each account and area, written area by area.
-ghost use Rattle.std.specs.Prelude.{◌≡◌, ℕ, ◌<◌, length, ◌≢◌, slice_index_or};
+ghost use Rattle.std.specs.Prelude.{◌≡◌, ℕ, ◌/◌, ◌%◌, ◌<◌, Bool, map, length, ◌≢◌, slice_index_or};
+ghost use Rattle.std.specs.List.{range_with_len};
 ghost use Rattle.amounts.specs.Ranges.{accounts, areas};
 ghost use Rattle.ledger.specs.Blocks.{cell_count, cell_number};
+ghost use Rattle.reconciling.specs.Columns.{ColumnsBy};
+ghost use Rattle.reconciling.specs.Outcomes.{unless_fault, lowest_area};
+ghost use Rattle.reconciling.specs.declared.fault.ReconcileFault.TheVariants as fault;
 
+use crate::fault::ReconcileFault;
 use amounts::{ACCOUNTS, AREAS};
+use ledger::CELLS;
 
-// Writes an area's entries, one for each account.
-pub(crate) fn write_column<T: Copy>(table: &mut [T], area: usize, column: &[T])
+// Writes an area's entries, one for each account. The entries are apart in the table, and of what is written through
+// `chunks_exact_mut` a proof knows nothing.
+fn write_column<T: Copy>(table: &mut [T], area: usize, column: &[T])
     requires table { length table.old ≡ cell_count }
     requires area { area < areas }
     requires column { length column.now ≡ accounts }
@@ -15,6 +22,21 @@ pub(crate) fn write_column<T: Copy>(table: &mut [T], area: usize, column: &[T])
     ensures count { length table.new ≡ cell_count }
 {
     for (account, entry) in column.iter().enumerate() {
-        table[account * AREAS as usize + area] = *entry;
+        table[account * usize::from(AREAS) + area] = *entry;
     }
+}
+
+// The table with each area's column, or the fault of the lowest area that has none.
+pub(crate) fn table_by_area<T: Copy + Default, F: Fn(usize) -> Option<[T; ACCOUNTS as usize]>>(
+    column_of: F,
+) -> Result<[T; CELLS], ReconcileFault>
+    requires { (area : ℕ) → area < areas → F.pre column_of area }
+    ensures { (passes : ℕ → Bool) (entry : ℕ → ℕ → T) → ColumnsBy (F.post column_of) passes entry → result ≡ unless_fault (lowest_area passes (λ area. fault.AreaBeyondLimits area)) (map (λ i. entry (i / areas) (i % areas)) (range_with_len 0 cell_count)) }
+{
+    let mut table = [T::default(); CELLS];
+    for area in 0..usize::from(AREAS) {
+        let column = column_of(area).ok_or(ReconcileFault::AreaBeyondLimits { area })?;
+        write_column(&mut table, area, &column);
+    }
+    Ok(table)
 }

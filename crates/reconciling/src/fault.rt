@@ -27,9 +27,9 @@ impl Fault for ReconcileFault {
             ReconcileFault::Block => Refusal::new(1, 0),
             ReconcileFault::SheetLength => Refusal::new(17, 0),
             ReconcileFault::AreaFigure { area } => Refusal::new(17, area),
-            ReconcileFault::EnergyFigure => Refusal::new(17, AREAS as usize),
+            ReconcileFault::EnergyFigure => Refusal::new(17, usize::from(AREAS)),
             ReconcileFault::AreaBeyondLimits { area } => Refusal::new(18, area),
-            ReconcileFault::EnergyBeyondLimits => Refusal::new(18, AREAS as usize),
+            ReconcileFault::EnergyBeyondLimits => Refusal::new(18, usize::from(AREAS)),
         }
     }
 }

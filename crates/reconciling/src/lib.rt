@@ -2,12 +2,16 @@
 #![tactic(auto)]
 
 mod billed;
+mod cells;
 mod columns;
 mod cost_lines;
 mod costs;
 mod fault;
+mod in_range;
 mod pricing;
+mod rows;
 mod sheets;
+mod signed;
 mod volume_lines;
 mod volumes;
 

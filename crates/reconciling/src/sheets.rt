@@ -4,7 +4,9 @@ ghost use Rattle.reconciling.specs.Outcomes.{unless_fault, area_sheet_fault, cos
 ghost use Rattle.reconciling.specs.Sheets.{row_in_range, cost_in_range, AreaSheet, DeliveryCosts};
 
 use crate::fault::ReconcileFault;
-use amounts::{AREAS, price_in_range};
+use crate::in_range::{InRange, RangeTest, Ranged};
+use crate::rows::CheckedRows;
+use amounts::price_in_range;
 
 // What was supplied to an area, and how its volume is reconciled.
 #[derive(Clone, Copy)]
@@ -34,54 +36,56 @@ const WHOLE: u16 = 10_000;
 // The highest cost, in pence.
 const MAX_COST: u64 = 1_000_000_000_000;
 
-fn row_in_range(row: AreaRow) -> bool
-    ensures { result ≡ row_in_range row }
-{
-    row.supplied <= MAX_SUPPLIED
-        && row.share <= WHOLE
-        && price_in_range(row.energy)
-        && price_in_range(row.delivery)
+impl Ranged for AreaRow {
+    ghost in_range = { row_in_range };
 }
 
-fn cost_in_range(cost: u64) -> bool
-    ensures { result ≡ cost_in_range cost }
-{
-    cost <= MAX_COST
+impl RangeTest for AreaRow {
+    fn in_range(&self) -> bool {
+        self.supplied <= MAX_SUPPLIED
+            && self.share <= WHOLE
+            && price_in_range(self.energy)
+            && price_in_range(self.delivery)
+    }
+}
+
+// A cost in pence.
+impl Ranged for u64 {
+    ghost in_range = { cost_in_range };
+}
+
+impl RangeTest for u64 {
+    fn in_range(&self) -> bool {
+        *self <= MAX_COST
+    }
 }
 
 // A row for each area, and every figure in its range.
-pub(crate) fn check_area_sheet(sheet: &[AreaRow]) -> Result<(), ReconcileFault>
-    ensures answer { result ≡ unless_fault (area_sheet_fault sheet.now) tt }
+pub(crate) fn check_area_sheet(
+    sheet: &[AreaRow],
+) -> Result<CheckedRows<'_, AreaRow>, ReconcileFault>
+    ensures answer { result ≡ unless_fault (area_sheet_fault sheet.now) sheet.now }
     ensures ranged { OnOk result (AreaSheet sheet.now) }
 {
-    if sheet.len() != AREAS as usize {
-        return Err(ReconcileFault::SheetLength);
-    }
-    for (area, row) in sheet.iter().enumerate() {
-        if !row_in_range(*row) {
-            return Err(ReconcileFault::AreaFigure { area });
-        }
-    }
-    Ok(())
+    CheckedRows::check(sheet)
+}
+
+// The costs of a year, each in its range.
+#[derive(Drop)]
+pub(crate) struct CheckedCosts<'s> {
+    pub(crate) delivery: CheckedRows<'s, u64>,
+    pub(crate) energy: InRange<u64>,
 }
 
 // A delivery cost for each area, and every cost in its range.
-pub(crate) fn check_cost_sheet(sheet: &CostSheet<'_>) -> Result<(), ReconcileFault>
-    ensures answer { result ≡ unless_fault (cost_sheet_fault sheet.now.delivery.now sheet.now.energy) tt }
+pub(crate) fn check_cost_sheet<'s>(
+    sheet: &CostSheet<'s>,
+) -> Result<CheckedCosts<'s>, ReconcileFault>
+    ensures answer { result ≡ unless_fault (cost_sheet_fault sheet.now.delivery.now sheet.now.energy) (record { delivery = sheet.now.delivery.now; energy = sheet.now.energy }) }
     ensures delivery { OnOk result (DeliveryCosts sheet.now.delivery.now) }
     ensures energy { OnOk result (cost_in_range sheet.now.energy ≡ true) }
 {
-    if sheet.delivery.len() != AREAS as usize {
-        return Err(ReconcileFault::SheetLength);
-    }
-    for (area, cost) in sheet.delivery.iter().enumerate() {
-        if !cost_in_range(*cost) {
-            return Err(ReconcileFault::AreaFigure { area });
-        }
-    }
-    if cost_in_range(sheet.energy) {
-        Ok(())
-    } else {
-        Err(ReconcileFault::EnergyFigure)
-    }
+    let delivery = CheckedRows::check(sheet.delivery)?;
+    let energy = InRange::check(sheet.energy).ok_or(ReconcileFault::EnergyFigure)?;
+    Ok(CheckedCosts { delivery, energy })
 }

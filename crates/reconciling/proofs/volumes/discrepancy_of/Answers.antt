@@ -1,52 +1,52 @@
-use Rattle.std.proofs.Common.{◌≡◌, ℕ, ◌+◌, ◌*◌, ◌<◌, ◌≤◌, ℤ, pos, ◌+ℤ◌, ◌-ℤ◌, nat_abs, sym, refl, ap, ◌∙◌, ap₂, arith, w64, to_z, of_z}
-use Rattle.std.proofs.lemmas.Int.{ints}
+use Rattle.std.proofs.Common.{◌≡◌, ℕ, ◌*◌, ◌≤◌, get_or, ℤ, pos, ◌-ℤ◌, nat_abs, ap, ◌∙◌, arith, rules, w64, to_z, of_z}
+use Rattle.std.proofs.lemmas.Int.{to_z-of_z}
 use Rattle.amounts.specs.Ranges.{accounts}
 use Rattle.amounts.specs.Sums.{int_sum_to}
-use Rattle.amounts.proofs.Sums.{int_sum_to_more}
-use Rattle.ledger.specs.Blocks.{cell_number, cell_at}
+use Rattle.amounts.proofs.Sums.{int_sum_to_ext}
+use Rattle.reconciling.specs.declared.sheets.AreaRow.{AreaRow}
+use Rattle.reconciling.specs.Limits.{max_billed_kwh}
 use Rattle.reconciling.specs.Outcomes.{sums_in}
+use Rattle.reconciling.specs.Sheets.{max_supplied}
 use Rattle.reconciling.specs.Volumes.{billed_kwh, discrepancy}
-use Rattle.reconciling.proofs.Additions.{add_is, add_le}
-use Rattle.reconciling.proofs.Ranged.{row_ranged, sums_of_cell}
+use Rattle.reconciling.proofs.FromFn.{made_each, made_all}
+use Rattle.reconciling.proofs.Machine.{sum_within, less_fits, less_is}
+use Rattle.reconciling.proofs.Ranged.{row_ranged}
 use Rattle.reconciling.proofs.volumes.discrepancy_of.Goals as goal
+use Rattle.reconciling.proofs.volumes.discrepancy_of.Goals.{After-from_fn-kwh, After-get, After-total}
 
-pub loop-account-init : goal.loop-account-init
-loop-account-init c = (refl, omega arith)
+billed_le : (c : After-from_fn-kwh) → (i : ℕ) → nat_abs (get_or c.from_fn-kwh.result i (pos 0)) ≤ max_billed_kwh
+billed_le c = made_all _ (λ y. nat_abs y ≤ max_billed_kwh) _ (λ i y q called. search rules) c.from_fn-kwh.result (pos 0) 64 c.from_fn-kwh.ensures.items (omega arith)
 
-pub billed_kwh-billed-requires : goal.billed_kwh-billed-requires
-billed_kwh-billed-requires c = sums_of_cell (cell_at c.args.cells.now c.loop-account.account c.args.area) (c.requires.cells.within (cell_number c.loop-account.account c.args.area))
+supplied_le : (c : After-get) → c.get.result.supplied ≤ max_supplied
+supplied_le c = (row_ranged c.get.result c.get.ensures.in_range).supplied
 
-pub overflow_add-billed : goal.overflow_add-billed
-overflow_add-billed c = let le = c.loop-account.invariant.1 in let small = c.billed_kwh-billed.ensures.bound in omega (arith, ints)
+-- the total, as the machine has it
+total_is : (c : After-total) → to_z w64 (of_z w64 c.total.result) ≡ int_sum_to (λ i. get_or c.from_fn-kwh.result i (pos 0)) accounts
+total_is c = to_z-of_z w64 c.total.result (record { sfits = c.total.type_inv }) ∙ c.total.ensures ∙ ap (int_sum_to (λ i. get_or c.from_fn-kwh.result i (pos 0))) c.from_fn-kwh.ensures.items.long
 
-pub loop-account-preserved : goal.loop-account-preserved
-loop-account-preserved c =
-    let s = c.loop-account.billed in
-    let r = c.billed_kwh-billed.result in
-    let i = c.loop-account.account in
-    let f : ℕ → ℤ = λ account. billed_kwh (sums_in c.args.cells.now account c.args.area) in
-    let le : nat_abs s ≤ i * 6000000000 = omega (arith, ap nat_abs c.loop-account.billed-is, c.loop-account.invariant.1) in
-    let few : i * 6000000000 + 6000000000 < 9223372036854775808 = omega arith in
-    let sum = ap (λ x. to_z w64 (of_z w64 (x +ℤ to_z w64 (of_z w64 r)))) c.loop-account.billed-is ∙ add_is s r (i * 6000000000) 6000000000 le c.billed_kwh-billed.ensures.bound few in (
-      sum ∙ ap₂ ◌+ℤ◌ (sym c.loop-account.billed-is ∙ c.loop-account.invariant.0) c.billed_kwh-billed.ensures.answer ∙ sym (int_sum_to_more f i),
-      omega (arith, ap nat_abs sum, add_le s r (i * 6000000000) 6000000000 le c.billed_kwh-billed.ensures.bound few),
-    )
+total_le : (c : After-total) → nat_abs (to_z w64 (of_z w64 c.total.result)) ≤ accounts * max_billed_kwh
+total_le c =
+    let d = (goal.at.After-total c).After-from_fn-kwh in
+    omega (arith, ap nat_abs (total_is c), sum_within (λ i. get_or c.from_fn-kwh.result i (pos 0)) max_billed_kwh accounts (λ i _. billed_le d i))
+
+pub total-requires : goal.total-requires
+total-requires c =
+    let d = (goal.at.total-requires c).After-from_fn-kwh in
+    record { count = omega (arith, c.from_fn-kwh.ensures.items.long); within = λ i. omega (arith, billed_le d i) }
 
 pub overflow_cast-result : goal.overflow_cast-result
-overflow_cast-result c = record { sfits = omega (arith, (row_ranged c.args.row c.requires.row).supplied) }
+overflow_cast-result c = record { sfits = omega (arith, supplied_le (goal.at.overflow_cast-result c).After-get) }
 
 pub overflow_sub-result : goal.overflow_sub-result
-overflow_sub-result c = let small = (row_ranged c.args.row c.requires.row).supplied in let le = c.loop-account.invariant.1 in omega (arith, ints)
+overflow_sub-result c =
+    let d = (goal.at.overflow_sub-result c).After-get in
+    less_fits c.get.result.supplied _ _ (total_is c) (accounts * max_billed_kwh) (total_le c) (omega (arith, supplied_le d))
 
 pub returns : goal.returns
 unfolding discrepancy
 returns c =
-    let supplied = c.args.row.supplied in
-    let billed = c.loop-account.billed in
-    let small = (row_ranged c.args.row c.requires.row).supplied in
-    let le : nat_abs billed ≤ c.loop-account.account * 6000000000 = omega (arith, ap nat_abs c.loop-account.billed-is, c.loop-account.invariant.1) in
-    let end : c.loop-account.account ≡ accounts = omega arith in
+    let d = (goal.at.returns c).After-get in
     let f : ℕ → ℤ = λ account. billed_kwh (sums_in c.args.cells.now account c.args.area) in
-    let machine : to_z w64 (of_z w64 (to_z w64 supplied -ℤ billed)) ≡ pos supplied -ℤ billed = omega (arith, ints) in
-    ap (λ x. to_z w64 (of_z w64 (to_z w64 supplied -ℤ x))) c.loop-account.billed-is
-    ∙ machine ∙ ap (λ z. pos supplied -ℤ z) (sym c.loop-account.billed-is ∙ c.loop-account.invariant.0 ∙ ap (int_sum_to f) end)
+    let each = made_each _ (λ i y. y ≡ f i) _ (λ i y q called. search rules) c.from_fn-kwh.result (pos 0) 64 c.from_fn-kwh.ensures.items in
+    less_is c.get.result.supplied _ _ (total_is c ∙ int_sum_to_ext (λ i. get_or c.from_fn-kwh.result i (pos 0)) f accounts each) (accounts * max_billed_kwh) (total_le c) (omega (arith, supplied_le d))
+    ∙ ap (λ (r : AreaRow). pos r.supplied -ℤ int_sum_to f accounts) c.get.ensures.value

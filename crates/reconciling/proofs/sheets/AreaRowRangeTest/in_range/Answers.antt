@@ -1,6 +1,6 @@
 use Rattle.std.proofs.Common.{rules}
 use Rattle.reconciling.specs.Sheets.{row_in_range}
-use Rattle.reconciling.proofs.sheets.row_in_range.Goals as goal
+use Rattle.reconciling.proofs.sheets.AreaRowRangeTest.in_range.Goals as goal
 
 pub returns-then-price_in_range : goal.returns-then-price_in_range
 unfolding row_in_range
