@@ -1,6 +1,7 @@
 pub mod Products
 pub mod Sums
-pub mod Chains
 pub mod Relations
 pub mod Forward
+pub mod Elsewhere
 pub mod Lawful
+pub mod Searches

@@ -6,7 +6,7 @@ ghost use Rattle.billing.specs.declared.fault.PostFault.TheVariants as post;
 use amounts::{Fault, Refusal};
 use records::RecordFault;
 
-// `place` is the record's first byte, and `next` is where the next record begins.
+// `place` is the record's first byte, and `next` is where the next record begins: both stand in each case, as the fault table has them.
 #[derive(Clone, Copy, PartialEq, Eq, Debug)]
 pub enum BookFault {
     // There is no line of the category, or its unit does not fit the kind.

@@ -5,15 +5,14 @@ ghost use Rattle.books.specs.Answers.{ValuesInRange};
 ghost use Rattle.records.specs.Blocks.{described_block, has_reading};
 ghost use Rattle.records.specs.Laws.{BlockRanged, LegRanged, LoadRanged};
 ghost use Rattle.records.specs.Limits.{max_slots};
-ghost use Rattle.records.specs.Records.{described_metered};
 ghost use Rattle.lines.specs.Limits.{max_infill};
 ghost use Rattle.billing.specs.Limits.{max_slot_value, max_net};
-ghost use Rattle.billing.specs.Filling.{kind_of, hauled_value, fill_consumption, fill_regeneration, Whole, filled, asks_regeneration, needs_value, first_needing};
+ghost use Rattle.billing.specs.Filling.{kind_of, hauled_value, fill_consumption, fill_regeneration, Whole, filled, asks_regeneration};
 
 use amounts::{Divisor, rounded};
 use books::SlotValues;
 use lines::MeteredKind;
-use records::{Metered, MeteredLeg, ReadingBlock};
+use records::{MeteredLeg, ReadingBlock};
 
 // Thousandths in a Wh.
 const THOUSANDTHS: u64 = 1_000;
@@ -43,10 +42,11 @@ fn hauled_value(value: u32, weight: u16, locomotives: u8) -> u64
     ensures value { result ≡ hauled_value value weight locomotives }
     ensures bound { result ≤ max_slot_value }
 {
-    let Some(divisor) = Divisor::new(THOUSANDTHS * locomotives as u64) else {
-        unreachable()
+    // One locomotive at least, so the divisor is there; no narrower number type holds the product without a cast.
+    let Some(divisor) = Divisor::new(THOUSANDTHS * u64::from(locomotives)) else {
+        unreachable!()
     };
-    let product = value as u64 * weight as u64;
+    let product = u64::from(value) * u64::from(weight);
     rounded(product as i64, divisor).unsigned_abs()
 }
 
@@ -60,8 +60,8 @@ pub(crate) fn fill_of(leg: MeteredLeg, values: SlotValues) -> Fill
 {
     match leg {
         MeteredLeg::MultipleUnit => Fill {
-            consumption: values.consumption as u64,
-            regeneration: values.regeneration as u64,
+            consumption: u64::from(values.consumption),
+            regeneration: u64::from(values.regeneration),
         },
         MeteredLeg::Hauled {
             weight,
@@ -71,7 +71,7 @@ pub(crate) fn fill_of(leg: MeteredLeg, values: SlotValues) -> Fill
             regeneration: hauled_value(values.regeneration, weight, locomotives),
         },
         MeteredLeg::NonJourney => Fill {
-            consumption: values.consumption as u64,
+            consumption: u64::from(values.consumption),
             regeneration: 0,
         },
     }
@@ -86,53 +86,25 @@ pub(crate) fn total_filled(block: Option<ReadingBlock>, slots: u8, fill: u64) ->
     ensures value { result ≡ sum (filled (option_map described_block block.entry) slots fill) }
     ensures bound { result ≤ max_net }
 {
+    // A match: for a closure of `map_or` the check asks for the sum's range as a fact on memory, which found no short proof.
     match block {
-        None => slots as u64 * fill,
+        None => u64::from(slots) * fill,
         Some(block) => {
-            let missing = slots as u64 - block.count() as u64;
+            let missing = u64::from(slots) - u64::from(block.count());
             block.total() + missing * fill
         }
     }
 }
 
-fn has_reading(block: Option<ReadingBlock>, slot: u8) -> bool
+pub(crate) fn has_reading(block: Option<ReadingBlock>, slot: u8) -> bool
     ensures { result ≡ has_reading (option_map described_block block.entry) slot }
 {
-    match block {
-        None => false,
-        Some(block) => block.has_reading(slot),
-    }
+    block.is_some_and(|block| block.has_reading(slot))
 }
 
 // Whether a book is asked for missing regeneration.
-fn asks_regeneration(leg: MeteredLeg) -> bool
+pub(crate) fn asks_regeneration(leg: MeteredLeg) -> bool
     ensures { result ≡ asks_regeneration leg }
 {
-    match leg {
-        MeteredLeg::MultipleUnit => true,
-        MeteredLeg::Hauled { .. } => true,
-        MeteredLeg::NonJourney => false,
-    }
-}
-
-// Whether a missing reading of the slot needs a value.
-fn needs_value(metered: Metered, slot: u8) -> bool
-    ensures { result ≡ needs_value (described_metered metered.entry) slot }
-{
-    if !has_reading(metered.consumption, slot) {
-        return true;
-    }
-    asks_regeneration(metered.leg) && !has_reading(metered.regeneration, slot)
-}
-
-// The lowest slot that needs a value.
-pub(crate) fn first_needing(metered: Metered) -> Option<u8>
-    ensures { result ≡ first_needing (described_metered metered.entry) }
-{
-    for slot in 0..metered.slots {
-        if needs_value(metered, slot) {
-            return Some(slot);
-        }
-    }
-    None
+    !matches!(leg, MeteredLeg::NonJourney)
 }

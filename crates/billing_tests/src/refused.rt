@@ -68,13 +68,8 @@ fn after_refused_records(rt: HostRuntime) -> Result<(), Fail> {
         next: 119,
     };
     check_billed(&rt, &BATCH, 106, bill)?;
-    let Err(end) = billed(&BATCH, 119)? else {
-        return Err(Fail::new("billed at the end"));
-    };
-    assert_eq!(rt;
-        end,
-        PostFault::Record(RecordFault::Incomplete { place: 119 })
-    );
+    let end = PostFault::Record(RecordFault::Incomplete { place: 119 });
+    assert_eq!(rt; billed(&BATCH, 119)?, Err(end));
     assert_eq!(rt; end.refusal().number, 2);
     Ok(())
 }

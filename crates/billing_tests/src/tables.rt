@@ -41,35 +41,12 @@ fn fill_values(list: &mut OrderedList<InfillLine>) -> Result<(), ListFault> {
     list.add(InfillLine::new(MeteredKind::NonJourney, 7, 0, 1, 900, 0)?)
 }
 
-// Lines to lend memory of: they are overwritten as lines are added.
-#[derive(Clone, Copy)]
-struct BlankLines {
-    category: CategoryLine,
-    loss: LossLine,
-    tariff: TariffLine,
-    infill: InfillLine,
-}
-
-fn blank_lines() -> Result<BlankLines, ListFault> {
-    let category = CategoryLine::new(0, Electricity::Ac, UnitKind::MultipleUnit, 1, 0, 0)?;
-    let loss = LossLine::new(0, Electricity::Ac, 0)?;
-    let tariff = TariffLine::new(0, 0, 1, 0, 0)?;
-    let infill = InfillLine::new(MeteredKind::NonJourney, 0, 0, 1, 0, 0)?;
-    Ok(BlankLines {
-        category,
-        loss,
-        tariff,
-        infill,
-    })
-}
-
 // What the record at the place of the batch bills, or why it is refused.
 pub(crate) fn billed(batch: &[u8], place: usize) -> Result<Result<Bill, PostFault>, Fail> {
-    let blank = blank_lines()?;
-    let mut category_memory = [blank.category; 2];
-    let mut loss_memory = [blank.loss; 3];
-    let mut price_memory = [blank.tariff; 5];
-    let mut value_memory = [blank.infill; 3];
+    let mut category_memory = [CategoryLine::default(); 2];
+    let mut loss_memory = [LossLine::default(); 3];
+    let mut price_memory = [TariffLine::default(); 5];
+    let mut value_memory = [InfillLine::default(); 3];
     let mut categories = OrderedList::new(&mut category_memory);
     let mut losses = OrderedList::new(&mut loss_memory);
     let mut prices = OrderedList::new(&mut price_memory);

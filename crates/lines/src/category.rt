@@ -110,6 +110,25 @@ impl CategoryLine {
     }
 }
 
+// A blank line, to fill memory with before it is lent: of category 0, with every other field at its lowest.
+impl Default for CategoryLine {
+    ghost use Rattle.lines.specs.declared.kinds.Electricity.TheVariants.{Ac};
+    ghost use Rattle.lines.specs.declared.kinds.UnitKind.TheVariants.{MultipleUnit};
+
+    ghost is_default = { λ l. (l.category ≡ 0) × (l.electricity ≡ Ac) × (l.unit ≡ MultipleUnit) × (l.power_factor ≡ min_power_factor) × (l.rate ≡ 0) × (l.discount ≡ 0) };
+
+    fn default() -> Self {
+        CategoryLine {
+            category: 0,
+            electricity: Electricity::Ac,
+            unit: UnitKind::MultipleUnit,
+            power_factor: MIN_POWER_FACTOR,
+            rate: 0,
+            discount: 0,
+        }
+    }
+}
+
 impl Line for CategoryLine {
     ghost key = { λ l. category_key l.category };
 

@@ -8,7 +8,7 @@ ghost use Rattle.lines.specs.declared.fault.ListFault.TheVariants.{OutOfRange};
 use crate::fault::ListFault;
 use crate::kinds::MeteredKind;
 use crate::line::{BYTE_VALUES, CATEGORY_VALUES, Line};
-use amounts::{area_exists, band_exists};
+use amounts::{FIRST_BAND, area_exists, band_exists};
 
 // The highest value for a slot.
 const MAX_INFILL: u32 = 2_000_000;
@@ -96,6 +96,25 @@ impl InfillLine {
         ensures range { result ≤ max_infill }
     {
         self.regeneration
+    }
+}
+
+// A blank line, to fill memory with before it is lent: of non-journeys, without values.
+impl Default for InfillLine {
+    ghost use Rattle.amounts.specs.Ranges.{first_band};
+    ghost use Rattle.lines.specs.declared.kinds.MeteredKind.TheVariants.{NonJourney};
+
+    ghost is_default = { λ l. (l.kind ≡ NonJourney) × (l.category ≡ 0) × (l.area ≡ 0) × (l.band ≡ first_band) × (l.consumption ≡ 0) × (l.regeneration ≡ 0) };
+
+    fn default() -> Self {
+        InfillLine {
+            kind: MeteredKind::NonJourney,
+            category: 0,
+            area: 0,
+            band: FIRST_BAND,
+            consumption: 0,
+            regeneration: 0,
+        }
     }
 }
 

@@ -60,6 +60,21 @@ impl LossLine {
     }
 }
 
+// A blank line, to fill memory with before it is lent: of area 0, without loss.
+impl Default for LossLine {
+    ghost use Rattle.lines.specs.declared.kinds.Electricity.TheVariants.{Ac};
+
+    ghost is_default = { λ l. (l.area ≡ 0) × (l.electricity ≡ Ac) × (l.loss ≡ 0) };
+
+    fn default() -> Self {
+        LossLine {
+            area: 0,
+            electricity: Electricity::Ac,
+            loss: 0,
+        }
+    }
+}
+
 impl Line for LossLine {
     ghost key = { λ l. loss_key l.area l.electricity };
 

@@ -7,7 +7,9 @@ ghost use Rattle.lines.specs.declared.fault.ListFault.TheVariants.{OutOfRange};
 
 use crate::fault::ListFault;
 use crate::line::{BYTE_VALUES, Line};
-use amounts::{account_exists, area_exists, band_exists, price_in_range};
+use amounts::{
+    FIRST_BAND, INFRASTRUCTURE_MANAGER, account_exists, area_exists, band_exists, price_in_range,
+};
 
 #[derive(Clone, Copy)]
 pub struct TariffLine {
@@ -73,6 +75,23 @@ impl TariffLine {
         ensures range { result ≤ max_price }
     {
         self.delivery
+    }
+}
+
+// A blank line, to fill memory with before it is lent: of the infrastructure manager, without prices.
+impl Default for TariffLine {
+    ghost use Rattle.amounts.specs.Ranges.{first_band};
+
+    ghost is_default = { λ l. (l.account ≡ 0) × (l.area ≡ 0) × (l.band ≡ first_band) × (l.energy ≡ 0) × (l.delivery ≡ 0) };
+
+    fn default() -> Self {
+        TariffLine {
+            account: INFRASTRUCTURE_MANAGER,
+            area: 0,
+            band: FIRST_BAND,
+            energy: 0,
+            delivery: 0,
+        }
     }
 }
 

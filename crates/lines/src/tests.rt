@@ -29,7 +29,7 @@ fn a_full_list_refuses_a_new_key_by_20_and_a_present_one_by_21(
 
 #[test]
 fn the_line_last_put_is_found(rt: HostRuntime) -> Result<(), Fail> {
-    let mut memory = [LossLine::new(0, Electricity::Ac, 0)?; 3];
+    let mut memory = [LossLine::default(); 3];
     let mut list = OrderedList::new(&mut memory);
     assert!(rt; find_loss(&list, 0, Electricity::Ac).is_none());
     list.add(LossLine::new(4, Electricity::Ac, 400)?)?;

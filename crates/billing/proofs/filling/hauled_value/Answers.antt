@@ -1,4 +1,4 @@
-use Rattle.std.proofs.Common.{◌≡◌, ℕ, ◌*◌, ◌<◌, ◌≤◌, nat_abs, ap, ◌∙◌, ap₂, arith, w64}
+use Rattle.std.proofs.Common.{◌≡◌, ℕ, ◌*◌, ◌<◌, ◌≤◌, nat_abs, ap, ◌∙◌, ap₂, arith, w64, to_z}
 use Rattle.std.proofs.lemmas.Nat.{mul-le}
 use Rattle.std.proofs.lemmas.Int.{to_z-of_z, to_z_pos}
 use Rattle.amounts.specs.Quotients.{quotient_rounded}
@@ -10,18 +10,23 @@ use Rattle.billing.proofs.filling.hauled_value.Goals as goal
 product_within : (v w : ℕ) → v ≤ 2000000 → w ≤ 10000 → v * w ≤ 20000000000
 product_within v w a b = mul-le v w 2000000 10000 a b
 
-pub returns : goal.returns
-returns c =
+value : (c : goal.After-unsigned_abs) → c.unsigned_abs.result ≡ hauled_value c.args.value c.args.weight c.args.locomotives
+value c =
+    let v = c.args.value in
+    let w = c.args.weight in
+    let product = ap (to_z w64) (ap₂ (λ a b. a * b) c.from-2.ensures c.from-3.ensures) ∙ to_z_pos w64 (v * w) (omega (arith, product_within v w c.requires.value c.requires.load.weight)) in
+    let divisor = c.in-Some.ensures.value ∙ ap (λ l. 1000 * l) c.from.ensures in
+    c.unsigned_abs.ensures.value
+    ∙ ap nat_abs (to_z-of_z w64 c.rounded.result (record { sfits = c.rounded.type_inv }) ∙ c.rounded.ensures.value ∙ ap₂ (λ x d. quotient_rounded x d) product divisor)
+
+pub returns-clause-value : goal.returns-clause-value
+returns-clause-value c = value c
+
+pub returns-clause-bound : goal.returns-clause-bound
+returns-clause-bound c =
     let v = c.args.value in
     let w = c.args.weight in
     let l = c.args.locomotives in
-    let small = product_within v w c.requires.value c.requires.load.weight in
-    let value : c.unsigned_abs.result ≡ hauled_value v w l =
-    c.unsigned_abs.ensures.value
-    ∙ ap nat_abs (to_z-of_z w64 c.rounded.result (record { sfits = c.rounded.type_inv }) ∙ c.rounded.ensures.value
-    ∙ ap₂ (λ x d. quotient_rounded x d) (to_z_pos w64 (v * w) (omega (arith, small))) c.in-Some.ensures.value) in
     let some : 0 < 1000 * l = omega (arith, c.requires.load.some_locomotives) in
-    record { value = value; bound = omega (arith, value, rounded_le (v * w) (1000 * l) max_slot_value some (omega (arith, small, c.requires.load.some_locomotives))) }
-
-pub overflow_cast-product-3 : goal.overflow_cast-product-3
-overflow_cast-product-3 c = record { sfits = omega (arith, product_within c.args.value c.args.weight c.requires.value c.requires.load.weight) }
+    let small = product_within v w c.requires.value c.requires.load.weight in
+    omega (arith, value c, rounded_le (v * w) (1000 * l) max_slot_value some (omega (arith, small, c.requires.load.some_locomotives)))
