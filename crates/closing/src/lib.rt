@@ -2,21 +2,20 @@
 #![tactic(auto)]
 
 ghost use Rattle.std.specs.Prelude.{◌≡◌};
-ghost use Rattle.billing.specs.Bills.{sources};
+ghost use Rattle.billing.specs.Tables.{sources_of};
 ghost use Rattle.ledger.specs.Blocks.{block};
-ghost use Rattle.lines.specs.Contents.{contents};
 ghost use Rattle.closing.specs.Closings.{Closes};
 
 mod fault;
 mod posting;
 mod watch;
 
+use billing::Tables;
 use books::{InfillBook, TariffBook};
 pub use fault::CloseFault;
 use ledger::{AccountRecord, Cell};
-use lines::{CategoryLine, LossLine, OrderedList};
 use posting::post_all;
-use reconciling::AreaRow;
+use reconciling::{AreaRow, CostSheet};
 pub use watch::Watch;
 use year::{OpenYear, SettledYear};
 
@@ -25,30 +24,19 @@ use year::{OpenYear, SettledYear};
 pub fn close<T: TariffBook, I: InfillBook, W: Watch>(
     cells: &mut [Cell],
     accounts: &mut [AccountRecord],
-    categories: &OrderedList<CategoryLine>,
-    losses: &OrderedList<LossLine>,
-    tariff: &T,
-    infill: &I,
+    tables: &Tables<T, I>,
     batch: &[u8],
     sheet: &[AreaRow],
-    costs: &[u64],
-    energy: u64,
+    costs: &CostSheet<'_>,
     watch: &mut W,
 ) -> Result<SettledYear, CloseFault>
-    ensures { Closes (sources (contents categories.now) (contents losses.now) (T.prices tariff.now) (I.values infill.now)) batch.now sheet.now costs.now energy (block cells.old accounts.old) result (block cells.new accounts.new) }
+    ensures { Closes (sources_of T.prices I.values tables.now) batch.now sheet.now costs.now.delivery.now costs.now.energy (block cells.old accounts.old) result (block cells.new accounts.new) }
 {
-    let Ok(year) = OpenYear::open(cells, accounts) else {
-        return Err(CloseFault::Counts);
-    };
-    let year = post_all(
-        year, cells, accounts, categories, losses, tariff, infill, batch, watch,
-    );
-    let year = match year.reconcile_volume(cells, accounts, sheet) {
-        Ok(year) => year,
-        Err((_, fault)) => return Err(CloseFault::Volume(fault)),
-    };
-    match year.reconcile_cost(cells, accounts, costs, energy) {
-        Ok(year) => Ok(year),
-        Err((_, fault)) => Err(CloseFault::Cost(fault)),
-    }
+    let year = OpenYear::open(cells, accounts).map_err(|_| CloseFault::Counts)?;
+    let year = post_all(year, cells, accounts, tables, batch, watch);
+    let year = year
+        .reconcile_volume(cells, accounts, sheet)
+        .map_err(|(_, fault)| CloseFault::Volume(fault))?;
+    year.reconcile_cost(cells, accounts, costs)
+        .map_err(|(_, fault)| CloseFault::Cost(fault))
 }

@@ -12,6 +12,7 @@ pub mod Settled
 pub mod PostEnds
 pub mod Forward
 pub mod Tables
+pub mod Made
 pub mod Adding
 pub mod StatementEnds
 pub mod Totals

@@ -22,7 +22,7 @@ use Rattle.year.specs.Outcomes.{with_bill, within_cell, post_outcome, post_memor
 use Rattle.year.specs.Promises.{open_at, Opens, post_answer, Posts, volume_answer, ReconcilesVolume, cost_answer, ReconcilesCost}
 
 -- an acceptance is no refusal
-accepted_refused : {A E X : Type 0} (x : A) (f : E) → ◌≡◌ {A = Result A E} (Ok x) (Err f) → X
+pub accepted_refused : {A E X : Type 0} (x : A) (f : E) → ◌≡◌ {A = Result A E} (Ok x) (Err f) → X
 accepted_refused x f e = absurd (let z : ◌≡◌ {A = ℕ} 0 1 = cc in omega arith)
 
 -- ---- opening

@@ -25,12 +25,12 @@ use Rattle.year.specs.Fairness.{FairVolumes, FairCosts}
 use Rattle.year.specs.Outcomes.{cell_with_volume, with_volumes, cell_with_cost, with_costs, account_with_cost, accounts_with_costs, volume_memory, cost_memory}
 use Rattle.year.specs.Promises.{ReconcilesVolume, ReconcilesCost, volume_answer, cost_answer, volume_settled_at, settled_at}
 use Rattle.year.proofs.Counted.{number_below}
-use Rattle.year.proofs.Outcomes.{volume_accepted, cost_accepted}
+use Rattle.year.proofs.Outcomes.{accepted_refused, volume_accepted, cost_accepted}
 
 -- ---- an accepted reconciliation found the block sound
 sound_if : {A : Type 0} (s : Bool) (next : Option ReconcileFault) (x y : A) → unless_fault (or_then (fault_unless s fault.Block) next) x ≡ Ok y → s ≡ true
 sound_if true next x y e = refl
-sound_if false next x y e = absurd (let z : ◌≡◌ {A = ℕ} 0 1 = cc in omega arith)
+sound_if false next x y e = accepted_refused y fault.Block (sym e)
 
 pub volume_sound : (b : Block) (sheet : List AreaRow) (t : List VolumeAdjustment) → Ok t ≡ volume_outcome b sheet → sound b ≡ true
 unfolding volume_outcome volume_fault

@@ -10,27 +10,7 @@ ghost use Rattle.year.specs.Steps.{CostExtends};
 use crate::states::{SettledYear, VolumeSettledYear};
 use crate::writing::{set_accounts, set_costs};
 use ledger::{AccountRecord, Cell};
-use reconciling::{ReconcileFault, cost_adjustments};
-
-fn settle_cost(
-    year: VolumeSettledYear,
-    cells: &mut [Cell],
-    accounts: &mut [AccountRecord],
-    costs: &[u64],
-    energy: u64,
-) -> Result<SettledYear, (VolumeSettledYear, ReconcileFault)>
-    ensures { ReconcilesCost year (block cells.old accounts.old) costs.now energy result (block cells.new accounts.new) }
-{
-    match cost_adjustments(cells, accounts, costs, energy) {
-        Ok(table) => {
-            set_costs(cells, &table.delivery);
-            set_accounts(accounts, &table.energy);
-            let VolumeSettledYear { accepted } = year;
-            Ok(SettledYear { accepted })
-        }
-        Err(fault) => Err((year, fault)),
-    }
-}
+use reconciling::{CostSheet, ReconcileFault, cost_adjustments};
 
 impl VolumeSettledYear {
     // Shares what each area's delivery cost, and the network's energy cost, is above or below the bills, and sets every
@@ -39,14 +19,23 @@ impl VolumeSettledYear {
         self,
         cells: &mut [Cell],
         accounts: &mut [AccountRecord],
-        costs: &[u64],
-        energy: u64,
+        costs: &CostSheet<'_>,
     ) -> Result<SettledYear, (VolumeSettledYear, ReconcileFault)>
-        ensures promise { ReconcilesCost self (block cells.old accounts.old) costs.now energy result (block cells.new accounts.new) }
-        ensures fair { OnOk result (FairCosts (sums_in cells.old) (volumes_in cells.old) costs.now energy (block cells.new accounts.new)) }
-        ensures run { CostExtends self (block cells.old accounts.old) costs.now energy result (block cells.new accounts.new) }
-        ensures year_settles { YearSettles self (block cells.old accounts.old) costs.now energy result (block cells.new accounts.new) }
+        ensures promise { ReconcilesCost self (block cells.old accounts.old) costs.now.delivery.now costs.now.energy result (block cells.new accounts.new) }
+        ensures fair { OnOk result (FairCosts (sums_in cells.old) (volumes_in cells.old) costs.now.delivery.now costs.now.energy (block cells.new accounts.new)) }
+        ensures run { CostExtends self (block cells.old accounts.old) costs.now.delivery.now costs.now.energy result (block cells.new accounts.new) }
+        ensures year_settles { YearSettles self (block cells.old accounts.old) costs.now.delivery.now costs.now.energy result (block cells.new accounts.new) }
     {
-        settle_cost(self, cells, accounts, costs, energy)
+        // Both arms hand a year on, and a closure of `map_err` would take it from the other.
+        match cost_adjustments(cells, accounts, costs) {
+            Ok(table) => {
+                set_costs(cells, &table.delivery);
+                set_accounts(accounts, &table.energy);
+                Ok(SettledYear {
+                    accepted: self.accepted,
+                })
+            }
+            Err(fault) => Err((self, fault)),
+        }
     }
 }

@@ -1,63 +1,35 @@
 // Posting a record to an open year.
 ghost use Rattle.std.specs.Prelude.{◌≡◌, length};
-ghost use Rattle.billing.specs.Bills.{sources, bill_at};
-ghost use Rattle.ledger.specs.Blocks.{block, cell_count};
-ghost use Rattle.lines.specs.Contents.{contents};
+ghost use Rattle.billing.specs.Tables.{sources_of};
+ghost use Rattle.ledger.specs.Blocks.{block};
 ghost use Rattle.year.specs.Forward.{PostGoesForward};
-ghost use Rattle.year.specs.Outcomes.{within_cell, next_of, cells_after};
+ghost use Rattle.year.specs.Outcomes.{post_outcome, next_of, cells_after};
 ghost use Rattle.year.specs.Promises.{Posts};
 ghost use Rattle.year.specs.Steps.{PostExtends};
 
 use crate::entering::enter;
 use crate::states::OpenYear;
-use billing::{LedgerFault, PostFault, bill_record};
+use billing::{LedgerFault, PostFault, Tables, bill_record};
 use books::{InfillBook, TariffBook};
 use ledger::{AccountRecord, Cell, block_is_sound};
-use lines::{CategoryLine, LossLine, OrderedList};
 
-// What a post does once its block is known to be sound.
-fn post_checked<T: TariffBook, I: InfillBook>(
+// Bills the record at `place` into its cell, if the block is sound, and answers where the next record begins.
+fn post_bill<T: TariffBook, I: InfillBook>(
     cells: &mut [Cell],
-    categories: &OrderedList<CategoryLine>,
-    losses: &OrderedList<LossLine>,
-    tariff: &T,
-    infill: &I,
+    accounts: &[AccountRecord],
+    tables: &Tables<T, I>,
     batch: &[u8],
     place: usize,
 ) -> Result<usize, PostFault>
-    requires { length cells.old ≡ cell_count }
-    ensures answer { result ≡ next_of (within_cell cells.old place (bill_at (sources (contents categories.now) (contents losses.now) (T.prices tariff.now) (I.values infill.now)) batch.now place)) }
-    ensures after { cells.new ≡ cells_after cells.old (within_cell cells.old place (bill_at (sources (contents categories.now) (contents losses.now) (T.prices tariff.now) (I.values infill.now)) batch.now place)) }
-{
-    let bill = bill_record(categories, losses, tariff, infill, batch, place)?;
-    enter(cells, place, bill)?;
-    Ok(bill.next)
-}
-
-fn post_one<T: TariffBook, I: InfillBook>(
-    year: OpenYear,
-    cells: &mut [Cell],
-    accounts: &[AccountRecord],
-    categories: &OrderedList<CategoryLine>,
-    losses: &OrderedList<LossLine>,
-    tariff: &T,
-    infill: &I,
-    batch: &[u8],
-    place: usize,
-) -> Result<(OpenYear, usize), (OpenYear, PostFault)>
-    ensures { Posts (sources (contents categories.now) (contents losses.now) (T.prices tariff.now) (I.values infill.now)) year (block cells.old accounts.now) batch.now place result (block cells.new accounts.now) }
+    ensures answer { result ≡ next_of (post_outcome (sources_of T.prices I.values tables.now) (block cells.old accounts.now) batch.now place) }
+    ensures after { cells.new ≡ cells_after cells.old (post_outcome (sources_of T.prices I.values tables.now) (block cells.old accounts.now) batch.now place) }
 {
     if !block_is_sound(cells, accounts) {
-        return Err((year, PostFault::Ledger(LedgerFault::Block)));
+        return Err(PostFault::from(LedgerFault::Block));
     }
-    match post_checked(cells, categories, losses, tariff, infill, batch, place) {
-        Ok(next) => {
-            let OpenYear { accepted } = year;
-            let accepted = accepted.saturating_add(1);
-            Ok((OpenYear { accepted }, next))
-        }
-        Err(fault) => Err((year, fault)),
-    }
+    let bill = bill_record(tables, batch, place)?;
+    enter(cells, place, bill)?;
+    Ok(bill.next)
 }
 
 impl OpenYear {
@@ -67,19 +39,21 @@ impl OpenYear {
         self,
         cells: &mut [Cell],
         accounts: &[AccountRecord],
-        categories: &OrderedList<CategoryLine>,
-        losses: &OrderedList<LossLine>,
-        tariff: &T,
-        infill: &I,
+        tables: &Tables<T, I>,
         batch: &[u8],
         place: usize,
     ) -> Result<(OpenYear, usize), (OpenYear, PostFault)>
-        ensures promise { Posts (sources (contents categories.now) (contents losses.now) (T.prices tariff.now) (I.values infill.now)) self (block cells.old accounts.now) batch.now place result (block cells.new accounts.now) }
-        ensures run { PostExtends (sources (contents categories.now) (contents losses.now) (T.prices tariff.now) (I.values infill.now)) self (block cells.old accounts.now) batch.now place result (block cells.new accounts.now) }
+        ensures promise { Posts (sources_of T.prices I.values tables.now) self (block cells.old accounts.now) batch.now place result (block cells.new accounts.now) }
+        ensures run { PostExtends (sources_of T.prices I.values tables.now) self (block cells.old accounts.now) batch.now place result (block cells.new accounts.now) }
         ensures forward { PostGoesForward (length batch.now) place result }
     {
-        post_one(
-            self, cells, accounts, categories, losses, tariff, infill, batch, place,
-        )
+        // Both arms hand the year on, and a closure of `map_err` would take it from the other.
+        match post_bill(cells, accounts, tables, batch, place) {
+            Ok(next) => {
+                let accepted = self.accepted.saturating_add(1);
+                Ok((OpenYear { accepted }, next))
+            }
+            Err(fault) => Err((self, fault)),
+        }
     }
 }

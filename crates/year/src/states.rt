@@ -1,4 +1,4 @@
-// The states of a year.
+// The states of a year. Each is a type of its own, so that a call out of turn does not build.
 
 // A year to post to. Only opening makes one.
 #[derive(Drop)]

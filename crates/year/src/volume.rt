@@ -11,24 +11,6 @@ use crate::writing::set_volumes;
 use ledger::{AccountRecord, Cell};
 use reconciling::{AreaRow, ReconcileFault, volume_adjustments};
 
-fn settle_volume(
-    year: OpenYear,
-    cells: &mut [Cell],
-    accounts: &[AccountRecord],
-    sheet: &[AreaRow],
-) -> Result<VolumeSettledYear, (OpenYear, ReconcileFault)>
-    ensures { ReconcilesVolume year (block cells.old accounts.now) sheet.now result (block cells.new accounts.now) }
-{
-    match volume_adjustments(cells, accounts, sheet) {
-        Ok(table) => {
-            set_volumes(cells, &table);
-            let OpenYear { accepted } = year;
-            Ok(VolumeSettledYear { accepted })
-        }
-        Err(fault) => Err((year, fault)),
-    }
-}
-
 impl OpenYear {
     // Shares what each area was supplied above or below its bills, and sets every volume adjustment. A refusal hands the
     // year back, and leaves the block as it was.
@@ -42,6 +24,15 @@ impl OpenYear {
         ensures fair { OnOk result (FairVolumes (sums_in cells.old) sheet.now cells.new) }
         ensures run { VolumeExtends self (block cells.old accounts.now) sheet.now result (block cells.new accounts.now) }
     {
-        settle_volume(self, cells, accounts, sheet)
+        // Both arms hand a year on, and a closure of `map_err` would take it from the other.
+        match volume_adjustments(cells, accounts, sheet) {
+            Ok(table) => {
+                set_volumes(cells, &table);
+                Ok(VolumeSettledYear {
+                    accepted: self.accepted,
+                })
+            }
+            Err(fault) => Err((self, fault)),
+        }
     }
 }

@@ -7,29 +7,23 @@ ghost use Rattle.year.specs.Outcomes.{with_volumes, with_costs, accounts_with_co
 use amounts::ACCOUNTS;
 use ledger::{AccountRecord, CELLS, Cell, VolumeAdjustment};
 
+// The table is read by an index: after a `zip` with `iter_mut`, a proof knows the length of the cells and no cell.
 pub(crate) fn set_volumes(cells: &mut [Cell], table: &[VolumeAdjustment; CELLS])
     requires { length cells.old ≡ cell_count }
     ensures { cells.new ≡ with_volumes cells.old table.now }
 {
-    for (i, volume) in table.iter().enumerate() {
-        let cell = cells[i];
-        cells[i] = Cell {
-            volume: *volume,
-            ..cell
-        };
+    for (i, cell) in cells.iter_mut().enumerate() {
+        cell.volume = table[i];
     }
 }
 
+// One loop for each figure: a closure that names the figure is no plainer, and the contract would have to speak of it.
 pub(crate) fn set_costs(cells: &mut [Cell], table: &[i64; CELLS])
     requires { length cells.old ≡ cell_count }
     ensures { cells.new ≡ with_costs cells.old table.now }
 {
-    for (i, cost) in table.iter().enumerate() {
-        let cell = cells[i];
-        cells[i] = Cell {
-            cost: *cost,
-            ..cell
-        };
+    for (i, cell) in cells.iter_mut().enumerate() {
+        cell.cost = table[i];
     }
 }
 
@@ -37,7 +31,7 @@ pub(crate) fn set_accounts(accounts: &mut [AccountRecord], table: &[i64; ACCOUNT
     requires { length accounts.old ≡ account_count }
     ensures { accounts.new ≡ accounts_with_costs table.now }
 {
-    for (i, cost) in table.iter().enumerate() {
-        accounts[i] = AccountRecord { cost: *cost };
+    for (i, account) in accounts.iter_mut().enumerate() {
+        account.cost = table[i];
     }
 }

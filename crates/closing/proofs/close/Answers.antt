@@ -1,43 +1,28 @@
-use Rattle.billing.specs.Bills.{sources}
-use Rattle.lines.specs.Contents.{contents}
-use Rattle.closing.proofs.Grounds.{volume_ground, cost_ground}
+use Rattle.std.proofs.Common.{Err, sym, ap, ◌∙◌, subst, rules}
+use Rattle.std.proofs.lemmas.Result.{err_from_is_err_and}
+use Rattle.billing.specs.Tables.{sources_of}
+use Rattle.ledger.specs.Blocks.{block}
+use Rattle.year.specs.Steps.{VolumeExtends}
+use Rattle.closing.specs.Closings.{Closes}
+use Rattle.closing.proofs.Ends.{mapped, was_ok, volume_of, cost_of, volume_ends, cost_ends}
 use Rattle.closing.proofs.close.Goals as goal
 
-pub returns-in-Err : goal.returns-in-Err
-returns-in-Err g c =
-    let m = sources (contents c.args.categories.now) (contents c.args.losses.now) (g.T.TariffBook.prices c.args.tariff.now) (g.I.InfillBook.values c.args.infill.now) in
-    let all = c.post_all-year.ensures in
-    record {
-      posts = all.posts;
-      year = c.in-Err.field-0-0;
-      whole = all.whole;
-      run = c.in-Err.ensures.run m all.posts all.run;
-      ground = volume_ground c.in-Err.ensures.promise;
-    }
+pub returns-in_err-year-2 : goal.returns-in_err-year-2
+returns-in_err-year-2 g c =
+    let m = sources_of g.T.TariffBook.prices g.I.InfillBook.values c.args.tables.now in
+    let before = block c.args.cells.now c.args.accounts.now in
+    let sheet = c.args.costs.now in
+    let p = err_from_is_err_and c.from_residual-in_err-year-2.result c.from_residual-in_err-year-2.ensures.1 in
+    let r = c.reconcile_volume.ensures in
+    subst (λ k. Closes m c.args.batch.now c.args.sheet.now sheet.delivery.now sheet.energy before k (block c.reconcile_volume.new.cells c.open.new.accounts)) (sym (p.1 ∙ ap Err p.2))
+    (volume_ends sheet.delivery.now sheet.energy before c.reconcile_volume.result c.map_err-2.result c.in_err-year-2.field-0.0 (mapped volume_of c.reconcile_volume.result c.map_err-2.result _ (λ e d made. search rules) c.map_err-2.ensures.cases) c.in_err-year-2.was c.post_all-year.ensures r.promise r.run)
 
-pub returns-in-Ok-reconcile_cost : goal.returns-in-Ok-reconcile_cost
-returns-in-Ok-reconcile_cost g c =
-    let m = sources (contents c.args.categories.now) (contents c.args.losses.now) (g.T.TariffBook.prices c.args.tariff.now) (g.I.InfillBook.values c.args.infill.now) in
-    let all = c.post_all-year.ensures in
-    let sheet = c.args.sheet.now in
-    let run = c.in-Ok-reconcile_volume.ensures.run m all.posts all.run in
-    record {
-      posts = all.posts;
-      whole = all.whole;
-      run = c.in-Ok-reconcile_cost.ensures.run m all.posts sheet run;
-      settlement = c.in-Ok-reconcile_cost.ensures.year_settles m all.posts sheet run;
-    }
-
-pub returns-in-Err-reconcile_cost : goal.returns-in-Err-reconcile_cost
-returns-in-Err-reconcile_cost g c =
-    let m = sources (contents c.args.categories.now) (contents c.args.losses.now) (g.T.TariffBook.prices c.args.tariff.now) (g.I.InfillBook.values c.args.infill.now) in
-    let all = c.post_all-year.ensures in
-    let sheet = c.args.sheet.now in
-    let run = c.in-Ok-reconcile_volume.ensures.run m all.posts all.run in
-    record {
-      posts = all.posts;
-      year = c.in-Err-reconcile_cost.field-0-0;
-      whole = all.whole;
-      run = c.in-Err-reconcile_cost.ensures.run m all.posts sheet run;
-      ground = cost_ground c.in-Err-reconcile_cost.ensures.promise;
-    }
+pub returns : goal.returns
+returns g c =
+    let sheet = c.args.costs.now in
+    let before = block c.args.cells.now c.args.accounts.now in
+    let volume = c.reconcile_volume.ensures.run in
+    let settled = was_ok c.reconcile_volume.result c.map_err-2.result _ c.in_ok-year-2.year c.map_err-2.ensures.cases c.in_ok-year-2.was in
+    let r = c.reconcile_cost.ensures in
+    cost_ends sheet.delivery.now sheet.energy before c.reconcile_cost.result c.map_err-3.result (mapped cost_of c.reconcile_cost.result c.map_err-3.result _ (λ e d made. search rules) c.map_err-3.ensures.cases) c.post_all-year.ensures
+    (subst (λ k. VolumeExtends c.post_all-year.result (block c.post_all-year.new.cells c.open.new.accounts) c.args.sheet.now k (block c.reconcile_volume.new.cells c.open.new.accounts)) settled volume) r.promise r.run r.year_settles

@@ -5,4 +5,4 @@ use Rattle.year.proofs.Tables.{WrittenTo}
 use Rattle.year.proofs.writing.set_volumes.Given as goal
 
 abbrev pub invariant-loop-i : goal.invariant-loop-i
-invariant-loop-i l = WrittenTo (λ k. cell_with_volume (get_or l.initial.cells k zero_cell) (get_or l.table k zero_volume)) zero_cell l.initial.cells l.i l.cells
+invariant-loop-i l = WrittenTo (λ k. cell_with_volume (get_or l.fn.cells k zero_cell) (get_or l.table k zero_volume)) zero_cell l.fn.cells l.i l.cells
