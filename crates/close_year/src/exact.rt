@@ -1,12 +1,13 @@
 // The exact proportion of an amount, to be printed: whole units, and what remains over the total weight.
-ghost use Rattle.std.specs.Prelude.{◌≡◌, ◌+◌, ◌*◌, ◌<◌, pos, IfSome, int_lt, nat_lt, unsigned_abs};
+ghost use Rattle.std.specs.Prelude.{◌≡◌, ◌+◌, ◌*◌, ◌<◌, IfSome, nat_lt, unsigned_abs};
 
 use amounts::Divisor;
 use std::fmt;
 
+// The amount gives the sign, which a quotient of zero has not.
 #[derive(Clone, Copy)]
 pub(crate) struct ExactShare {
-    pub(crate) negative: bool,
+    pub(crate) amount: i64,
     pub(crate) quotient: u64,
     pub(crate) remainder: u64,
     pub(crate) total: u64,
@@ -15,14 +16,12 @@ pub(crate) struct ExactShare {
 impl ExactShare {
     // `amount` times `weight` over `total`, if the product fits.
     pub(crate) fn of(amount: i64, weight: u64, total: Divisor) -> Option<ExactShare>
-        ensures { IfSome result (λ s. (s.quotient * total.value + s.remainder ≡ unsigned_abs amount * weight) × (s.remainder < total.value) × (s.total ≡ total.value) × (s.negative ≡ int_lt amount (pos 0))) }
+        ensures { IfSome result (λ s. (s.quotient * total.value + s.remainder ≡ unsigned_abs amount * weight) × (s.remainder < total.value) × (s.total ≡ total.value) × (s.amount ≡ amount)) }
     {
-        let Some(product) = amount.unsigned_abs().checked_mul(weight) else {
-            return None;
-        };
+        let product = amount.unsigned_abs().checked_mul(weight)?;
         let divisor = total.get();
         Some(ExactShare {
-            negative: amount < 0,
+            amount,
             quotient: product / divisor,
             remainder: product % divisor,
             total: divisor,
@@ -39,10 +38,11 @@ impl ExactShare {
 
 impl fmt::Display for ExactShare {
     fn fmt<W: fmt::Write>(&self, f: &mut fmt::Formatter<W>) -> fmt::Result {
-        let sign = if self.negative { "-" } else { "" };
-        let quotient = self.quotient;
-        let remainder = self.remainder;
-        let total = self.total;
-        write!(f, "{sign}{quotient} {remainder}/{total}")
+        let sign = if self.amount < 0 { "-" } else { "" };
+        write!(
+            f,
+            "{sign}{} {}/{}",
+            self.quotient, self.remainder, self.total
+        )
     }
 }

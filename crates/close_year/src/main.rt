@@ -2,63 +2,71 @@
 #![tactic(auto)]
 
 mod batch;
-mod bill;
 mod bills;
 mod exact;
 mod infills;
 mod reconcile;
-mod refused;
 mod report;
 mod sample;
 mod tariffs;
 
 use batch::report_batch;
-use bill::Billed;
 use infills::report_infills;
-use report::report;
+use report::{SupplierBill, report};
 use sample::report_sample;
+use sharing::{AccountQuantity, Pence};
 use std::{env, fs, io};
 use tariffs::report_tariffs;
 
-// What the two operators were billed.
-const ENERGY: [Billed; 2] = [
-    Billed {
-        account: 1,
-        pence: 6_000,
+// What suppliers ask, and what the two operators were billed.
+const SUPPLIER_BILLS: [SupplierBill; 3] = [
+    SupplierBill {
+        title: "Energy, over the network",
+        cost: 27_500,
+        billed: [
+            AccountQuantity {
+                account: 1,
+                quantity: Pence(6_000),
+            },
+            AccountQuantity {
+                account: 2,
+                quantity: Pence(20_000),
+            },
+        ],
     },
-    Billed {
-        account: 2,
-        pence: 20_000,
+    SupplierBill {
+        title: "Delivery in area 0",
+        cost: 5_950,
+        billed: [
+            AccountQuantity {
+                account: 1,
+                quantity: Pence(2_800),
+            },
+            AccountQuantity {
+                account: 2,
+                quantity: Pence(1_400),
+            },
+        ],
     },
-];
-
-const DELIVERY_IN_AREA_0: [Billed; 2] = [
-    Billed {
-        account: 1,
-        pence: 2_800,
-    },
-    Billed {
-        account: 2,
-        pence: 1_400,
-    },
-];
-
-const DELIVERY_IN_AREA_1: [Billed; 2] = [
-    Billed {
-        account: 1,
-        pence: 2_200,
-    },
-    Billed {
-        account: 2,
-        pence: 1_600,
+    SupplierBill {
+        title: "Delivery in area 1",
+        cost: 1_750,
+        billed: [
+            AccountQuantity {
+                account: 1,
+                quantity: Pence(2_200),
+            },
+            AccountQuantity {
+                account: 2,
+                quantity: Pence(1_600),
+            },
+        ],
     },
 ];
 
 // The batch in the file that the first argument names.
 fn report_file(rt: &HostRuntime) -> io::Result<()> {
-    let mut args = env::args(rt)?;
-    let _ = args.next();
-    let Some(path) = args.next() else {
+    let Some(path) = env::args(rt)?.nth(1) else {
         return println!(rt; "No batch: name a file of records.");
     };
     let batch = fs::read(rt, path.as_str())?;
@@ -67,9 +75,9 @@ fn report_file(rt: &HostRuntime) -> io::Result<()> {
 }
 
 fn main(rt: HostRuntime) -> io::Result<()> {
-    report(&rt, "Energy, over the network", 27_500, &ENERGY)?;
-    report(&rt, "Delivery in area 0", 5_950, &DELIVERY_IN_AREA_0)?;
-    report(&rt, "Delivery in area 1", 1_750, &DELIVERY_IN_AREA_1)?;
+    for bill in &SUPPLIER_BILLS {
+        report(&rt, bill)?;
+    }
     report_tariffs(&rt)?;
     report_infills(&rt)?;
     report_file(&rt)

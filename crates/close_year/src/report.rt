@@ -1,21 +1,29 @@
 // The report on one supplier's bill: what was billed, shared and paid, account by account.
-use crate::bill::Billed;
 use crate::exact::ExactShare;
 use crate::reconcile::{Reconciled, reconcile};
-use crate::refused::print_refusal;
-use amounts::Divisor;
+use amounts::{Divisor, Fault};
+use sharing::{AccountQuantity, Pence};
 use std::io;
 
+pub(crate) struct SupplierBill {
+    pub(crate) title: &'static str,
+    pub(crate) cost: i64,
+    pub(crate) billed: [AccountQuantity<Pence>; 2],
+}
+
 // One operator's line.
-fn print_line(rt: &impl Print, sums: &Reconciled, bill: &Billed, part: i64) -> io::Result<()> {
+fn print_line(
+    rt: &impl Print,
+    sums: &Reconciled,
+    bill: &AccountQuantity<Pence>,
+    part: i64,
+) -> io::Result<()> {
     let account = bill.account;
-    let pence = bill.pence;
-    let total = sums.billed.unsigned_abs();
-    let weight = pence.unsigned_abs();
-    let Some(divisor) = Divisor::new(total) else {
+    let Pence(pence) = bill.quantity;
+    let Some(divisor) = Divisor::new(sums.billed.unsigned_abs()) else {
         return println!(rt; "{account:>9}{pence:>9}   no bill takes part");
     };
-    let Some(exact) = ExactShare::of(sums.discrepancy, weight, divisor) else {
+    let Some(exact) = ExactShare::of(sums.discrepancy, pence.unsigned_abs(), divisor) else {
         return println!(rt; "{account:>9}{pence:>9}   beyond the limits of a share");
     };
     let odd = if exact.is_exceeded_by(part) {
@@ -28,42 +36,41 @@ fn print_line(rt: &impl Print, sums: &Reconciled, bill: &Billed, part: i64) -> i
 }
 
 // The head of the table.
-fn print_head(rt: &impl Print, title: &str, cost: i64, sums: &Reconciled) -> io::Result<()> {
-    let billed = sums.billed;
+fn print_head(rt: &impl Print, bill: &SupplierBill, sums: &Reconciled) -> io::Result<()> {
     let size = sums.discrepancy.unsigned_abs();
     let side = if sums.discrepancy < 0 {
         "over"
     } else {
         "short"
     };
-    println!(rt; "{title}")?;
-    println!(rt; "  supplier's bill {cost}, billed {billed}: {size} {side}")?;
+    println!(rt; "{}", bill.title)?;
+    println!(rt;
+        "  supplier's bill {}, billed {}: {size} {side}",
+        bill.cost, sums.billed
+    )?;
     println!(rt; "  account   billed    part  odd penny  pays in all  exact proportion")
 }
 
 // Shares the discrepancy of one supplier's bill over two operators, and prints how.
-pub(crate) fn report(
-    rt: &impl Print,
-    title: &str,
-    cost: i64,
-    bills: &[Billed; 2],
-) -> io::Result<()> {
-    let mut parts = [0i64; 2];
-    let sums = match reconcile(cost, bills, &mut parts) {
+pub(crate) fn report(rt: &impl Print, bill: &SupplierBill) -> io::Result<()> {
+    let mut parts = [0; 2];
+    let sums = match reconcile(bill.cost, &bill.billed, &mut parts) {
         Ok(sums) => sums,
-        Err(fault) => return print_refusal(rt, title, &fault),
+        Err(fault) => return println!(rt; "{}: {}", bill.title, fault.refusal()),
     };
-    print_head(rt, title, cost, &sums)?;
-    for (bill, part) in bills.iter().zip(parts.iter()) {
-        print_line(rt, &sums, bill, *part)?;
+    print_head(rt, bill, &sums)?;
+    for (line, part) in bill.billed.iter().zip(parts) {
+        print_line(rt, &sums, line, part)?;
     }
-    print_sum(rt, cost, &sums, &parts)
+    print_sum(rt, bill.cost, &sums, &parts)
 }
 
 // What all operators pay, held against the supplier's bill.
-fn print_sum(rt: &impl Print, cost: i64, sums: &Reconciled, parts: &[i64; 2]) -> io::Result<()> {
+fn print_sum(rt: &impl Print, cost: i64, sums: &Reconciled, parts: &[i64]) -> io::Result<()> {
     let billed = sums.billed;
-    let shared = parts[0].saturating_add(parts[1]);
+    let shared = parts
+        .iter()
+        .fold(0i64, |sum, part| sum.saturating_add(*part));
     let paid = billed.saturating_add(shared);
     let verdict = if paid == cost {
         "meets the supplier's bill to the penny"

@@ -1,6 +1,7 @@
 // Literal tables for the batch: two categories, losses, prices and infill values.
 use crate::bills::report_bills;
-use crate::refused::print_refusal;
+use amounts::Fault;
+use billing::Tables;
 use books::{TableInfill, TableTariff};
 use lines::{
     CategoryLine, Electricity, InfillLine, ListFault, LossLine, MeteredKind, OrderedList,
@@ -40,54 +41,29 @@ fn fill_values(list: &mut OrderedList<InfillLine>) -> Result<(), ListFault> {
     list.add(InfillLine::new(MeteredKind::NonJourney, 7, 0, 1, 900, 0)?)
 }
 
-// Lines to lend memory of: they are overwritten as lines are added.
-#[derive(Clone, Copy)]
-struct BlankLines {
-    category: CategoryLine,
-    loss: LossLine,
-    tariff: TariffLine,
-    infill: InfillLine,
-}
-
-fn blank_lines() -> Result<BlankLines, ListFault> {
-    let category = CategoryLine::new(0, Electricity::Ac, UnitKind::MultipleUnit, 1, 0, 0)?;
-    let loss = LossLine::new(0, Electricity::Ac, 0)?;
-    let tariff = TariffLine::new(0, 0, 1, 0, 0)?;
-    let infill = InfillLine::new(MeteredKind::NonJourney, 0, 0, 1, 0, 0)?;
-    Ok(BlankLines {
-        category,
-        loss,
-        tariff,
-        infill,
-    })
-}
-
 // Bills the batch by these tables.
 pub(crate) fn report_sample(rt: &impl Print, batch: &[u8]) -> io::Result<()> {
-    let Ok(blank) = blank_lines() else {
-        return Ok(());
-    };
-    let mut category_memory = [blank.category; 4];
-    let mut loss_memory = [blank.loss; 4];
-    let mut price_memory = [blank.tariff; 4];
-    let mut value_memory = [blank.infill; 4];
+    let mut category_memory = [CategoryLine::default(); 4];
+    let mut loss_memory = [LossLine::default(); 4];
+    let mut price_memory = [TariffLine::default(); 4];
+    let mut value_memory = [InfillLine::default(); 4];
     let mut categories = OrderedList::new(&mut category_memory);
     let mut losses = OrderedList::new(&mut loss_memory);
     let mut prices = OrderedList::new(&mut price_memory);
     let mut values = OrderedList::new(&mut value_memory);
-    if let Err(fault) = fill_categories(&mut categories) {
-        return print_refusal(rt, "categories", &fault);
-    }
-    if let Err(fault) = fill_losses(&mut losses) {
-        return print_refusal(rt, "losses", &fault);
-    }
-    if let Err(fault) = fill_prices(&mut prices) {
-        return print_refusal(rt, "prices", &fault);
-    }
-    if let Err(fault) = fill_values(&mut values) {
-        return print_refusal(rt, "values", &fault);
+    let filled = [
+        ("categories", fill_categories(&mut categories)),
+        ("losses", fill_losses(&mut losses)),
+        ("prices", fill_prices(&mut prices)),
+        ("values", fill_values(&mut values)),
+    ];
+    for (what, filled) in filled {
+        if let Err(fault) = filled {
+            return println!(rt; "{what}: {}", fault.refusal());
+        }
     }
     let tariff = TableTariff::new(&prices);
     let infill = TableInfill::new(&values);
-    report_bills(rt, &categories, &losses, &tariff, &infill, batch)
+    let tables = Tables::new(&categories, &losses, &tariff, &infill);
+    report_bills(rt, &tables, batch)
 }

@@ -1,5 +1,5 @@
 // Tariff books: a table of literal lines, and a blended price.
-use crate::refused::print_refusal;
+use amounts::Fault;
 use books::{BlendedTariff, TableTariff, TariffBook};
 use lines::{ListFault, OrderedList, TariffLine};
 use std::io;
@@ -7,11 +7,10 @@ use std::io;
 // What a book answers for an account in area 0 and band 1.
 fn print_prices<T: TariffBook>(rt: &impl Print, book: &T, account: u8) -> io::Result<()> {
     match book.prices(account, 0, 1) {
-        Some(prices) => {
-            let energy = prices.energy;
-            let delivery = prices.delivery;
-            println!(rt; "    account {account}: energy {energy}, delivery {delivery}")
-        }
+        Some(prices) => println!(rt;
+            "    account {account}: energy {}, delivery {}",
+            prices.energy, prices.delivery
+        ),
         None => println!(rt; "    account {account}: none"),
     }
 }
@@ -24,29 +23,22 @@ fn fill(list: &mut OrderedList<TariffLine>) -> Result<(), ListFault> {
 }
 
 fn report_table(rt: &impl Print) -> io::Result<()> {
-    let Ok(line) = TariffLine::new(0, 0, 1, 0, 0) else {
-        return Ok(());
-    };
-    let mut memory = [line; 4];
+    let mut memory = [TariffLine::default(); 4];
     let mut list = OrderedList::new(&mut memory);
     let filled = fill(&mut list);
-    let count = list.count();
-    println!(rt; "  a table of {count} tariff lines answers")?;
+    println!(rt; "  a table of {} tariff lines answers", list.count())?;
     let book = TableTariff::new(&list);
-    print_prices(rt, &book, 1)?;
-    print_prices(rt, &book, 2)?;
-    print_prices(rt, &book, 3)?;
-    match filled {
-        Ok(()) => Ok(()),
-        Err(fault) => print_refusal(rt, "    account 2 again", &fault),
+    for account in 1..=3 {
+        print_prices(rt, &book, account)?;
     }
+    filled.or_else(|fault| println!(rt; "    account 2 again: {}", fault.refusal()))
 }
 
 fn report_blended(rt: &impl Print) -> io::Result<()> {
     println!(rt; "  a blended tariff of 2550 pence over 2000 kWh answers")?;
     match BlendedTariff::new(9_734, 2_550, 2_000) {
         Ok(book) => print_prices(rt, &book, 3),
-        Err(fault) => print_refusal(rt, "    the tariff", &fault),
+        Err(fault) => println!(rt; "    the tariff: {}", fault.refusal()),
     }
 }
 

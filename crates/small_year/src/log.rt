@@ -5,21 +5,11 @@ use closing::Watch;
 // How many refusals are kept.
 const KEPT: usize = 8;
 
-#[derive(Drop)]
+#[derive(Default, Drop)]
 pub(crate) struct PostLog {
-    pub(crate) accepted: u32,
-    pub(crate) refused: u32,
+    pub(crate) accepted: usize,
+    pub(crate) refused: usize,
     pub(crate) refusals: [Option<Refusal>; KEPT],
-}
-
-impl PostLog {
-    pub(crate) fn new() -> PostLog {
-        PostLog {
-            accepted: 0,
-            refused: 0,
-            refusals: [None; KEPT],
-        }
-    }
 }
 
 impl Watch for PostLog {
@@ -28,9 +18,8 @@ impl Watch for PostLog {
     }
 
     fn refused(&mut self, refusal: Refusal) {
-        let place = self.refused as usize;
-        if place < KEPT {
-            self.refusals[place] = Some(refusal);
+        if let Some(kept) = self.refusals.get_mut(self.refused) {
+            *kept = Some(refusal);
         }
         self.refused = self.refused.saturating_add(1);
     }

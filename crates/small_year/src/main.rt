@@ -1,10 +1,8 @@
 // A program that closes a small year, from opening to statements.
 #![tactic(auto)]
 
-mod blank;
 mod closed_year;
 mod log;
-mod refused;
 mod statements_report;
 mod year_data;
 
