@@ -1,9 +1,9 @@
 -- What the calls of a list do, from what they read of its memory. Assumes nothing.
-use Rattle.std.proofs.Common.{◌≡◌, ℕ, ◌<◌, true, false, cond, eqb, ltb, List, length, take, is_some, Some, None, Ok, Option, sym, refl, ap, ◌∙◌, subst, arith}
+use Rattle.std.proofs.Common.{◌≡◌, ℕ, ◌<◌, true, false, cond, eqb, List, length, take, is_some, Some, None, Ok, Option, sym, refl, ap, ◌∙◌, subst, arith}
 use Rattle.std.proofs.lemmas.List.{take_min, length-take}
-use Rattle.std.proofs.lemmas.Bool.{cond-true, cond-false, lt-ltb}
+use Rattle.std.proofs.lemmas.Bool.{cond-true}
 use Rattle.lines.specs.Lookups.{Rising, lookup, insertion_point, with_line, with_replaced}
-use Rattle.lines.specs.Outcomes.{to_add, to_replace}
+use Rattle.lines.specs.Outcomes.{to_replace}
 use Rattle.lines.proofs.Lookups.{rising_with, rising_replaced, lookup_with, lookup_replaced, found_inside}
 
 -- the lines in use, by their count
@@ -17,9 +17,6 @@ not_there (Some x) e = cc
 module _ {L : Type 0} (key : L → ℕ) (line : L) (xs : List L) where
   -- ---- an accepted add, after which the lines are ys
   module _ (absent : is_some (lookup key (key line) xs) ≡ false) where
-    pub accepts : (n : ℕ) → length xs < n → Ok tt ≡ to_add key n xs line
-    accepts n room = sym (cond-false (is_some (lookup key (key line) xs)) _ _ absent ∙ cond-true (ltb (length xs) n) _ _ (lt-ltb (length xs) n room))
-
     module _ (ys : List L) (is : ys ≡ with_line key line xs) where
       pub added_rising : Rising key xs → Rising key ys
       added_rising up = subst (Rising key) (sym is) (rising_with key line xs (not_there (lookup key (key line) xs) absent) up)

@@ -110,6 +110,7 @@ impl CategoryLine {
 }
 
 // A blank line, to fill memory with before it is lent: of category 0, with every other field at its lowest.
+// By hand: a struct with a ghost field derives no Default.
 impl Default for CategoryLine {
     ghost use Rattle.lines.specs.declared.kinds.Electricity.TheVariants.{Ac};
     ghost use Rattle.lines.specs.declared.kinds.UnitKind.TheVariants.{MultipleUnit};

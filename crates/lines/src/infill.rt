@@ -100,6 +100,7 @@ impl InfillLine {
 }
 
 // A blank line, to fill memory with before it is lent: of non-journeys, without values.
+// By hand: a struct with a ghost field derives no Default.
 impl Default for InfillLine {
     ghost use Rattle.amounts.specs.Ranges.{first_band};
     ghost use Rattle.lines.specs.declared.kinds.MeteredKind.TheVariants.{NonJourney};

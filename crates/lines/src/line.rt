@@ -1,4 +1,4 @@
-// What a list asks of its lines: a key.
+// What a list asks of its lines: a key. It is one number made of the key fields, by a rule of the project, and no tuple of them.
 ghost use Rattle.std.specs.Prelude.{◌≡◌, ℕ};
 
 // How many values a key field has: one of 8 bits, and the category, of 16.

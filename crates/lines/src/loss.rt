@@ -61,6 +61,7 @@ impl LossLine {
 }
 
 // A blank line, to fill memory with before it is lent: of area 0, without loss.
+// By hand: a struct with a ghost field derives no Default.
 impl Default for LossLine {
     ghost use Rattle.lines.specs.declared.kinds.Electricity.TheVariants.{Ac};
 

@@ -79,6 +79,7 @@ impl TariffLine {
 }
 
 // A blank line, to fill memory with before it is lent: of the infrastructure manager, without prices.
+// By hand: a struct with a ghost field derives no Default.
 impl Default for TariffLine {
     ghost use Rattle.amounts.specs.Ranges.{first_band};
 

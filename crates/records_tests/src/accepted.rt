@@ -23,9 +23,9 @@ fn hauled_journey(rt: HostRuntime) -> Result<(), Fail> {
     assert_eq!(rt; record.leg, leg);
     assert_eq!(rt; record.slots, 4);
     assert_eq!(rt; record.regeneration, None);
-    let Some(block) = record.consumption else {
-        return Err(Fail::new("no consumption"));
-    };
+    let block = record
+        .consumption
+        .ok_or_else(|| Fail::new("no consumption"))?;
     assert_eq!(rt; block.place(), 13);
     assert_eq!(rt; block.count(), 2);
     assert_eq!(rt; block.total(), 3_000);
@@ -41,9 +41,9 @@ fn two_blocks_with_the_largest_reading(rt: HostRuntime) -> Result<(), Fail> {
     let Ok(Some((Record::Metered(record), _))) = read_record(&MULTIPLE_UNIT, 0) else {
         return Err(Fail::new("not metered"));
     };
-    let Some(block) = record.regeneration else {
-        return Err(Fail::new("no regeneration"));
-    };
+    let block = record
+        .regeneration
+        .ok_or_else(|| Fail::new("no regeneration"))?;
     assert_eq!(rt; block.place(), 25);
     assert_eq!(rt; block.reading(1), Some(2_000_000));
     Ok(())

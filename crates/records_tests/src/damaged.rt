@@ -21,7 +21,7 @@ const fn changed(offset: usize, byte: u8, number: u8, slot: Option<u8>) -> Chang
 }
 
 fn next_after(number: u8) -> Option<usize> {
-    if number == 2 { None } else { Some(32) }
+    (number != 2).then_some(32)
 }
 
 #[test]
