@@ -62,14 +62,15 @@ pub(crate) fn report_year(rt: &impl Print) -> io::Result<()> {
     let mut losses = OrderedList::new(&mut loss_memory);
     let mut prices = OrderedList::new(&mut price_memory);
     let values = OrderedList::new(&mut value_memory);
-    if let Err(fault) = fill_categories(&mut categories) {
-        return println!(rt; "categories: {}", fault.refusal());
-    }
-    if let Err(fault) = fill_losses(&mut losses) {
-        return println!(rt; "losses: {}", fault.refusal());
-    }
-    if let Err(fault) = fill_prices(&mut prices) {
-        return println!(rt; "prices: {}", fault.refusal());
+    let filled = [
+        ("categories", fill_categories(&mut categories)),
+        ("losses", fill_losses(&mut losses)),
+        ("prices", fill_prices(&mut prices)),
+    ];
+    for (what, filled) in filled {
+        if let Err(fault) = filled {
+            return println!(rt; "{what}: {}", fault.refusal());
+        }
     }
     let tariff = TableTariff::new(&prices);
     let infill = TableInfill::new(&values);
