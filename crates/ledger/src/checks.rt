@@ -12,7 +12,7 @@ const MAX_WH: u64 = 3_000_000_000_000;
 // The largest sum of charges, in millionths of a penny.
 const MAX_CHARGE: u64 = 3_000_000_000_000_000;
 
-// The largest volume adjustment, in kWh, and what it comes to in pence.
+// The largest volume adjustment, and the largest discrepancy of an area, in kWh; and what an adjustment comes to in pence.
 pub const MAX_KWH: u64 = 3_000_000_000;
 
 const MAX_VOLUME_PENCE: u64 = 300_000_000_000;
