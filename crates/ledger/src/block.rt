@@ -4,10 +4,10 @@
 ghost use Rattle.std.specs.Prelude.{◌≡◌};
 ghost use Rattle.ledger.specs.Blocks.{cell_number};
 
-use amounts::AREAS;
+use amounts::{ACCOUNTS, AREAS};
 
-// How many cells a year has: one for each account and area.
-pub const CELLS: usize = 1_280;
+// How many cells a year has: one for each account and area. `as`, since a constant calls no function.
+pub const CELLS: usize = ACCOUNTS as usize * AREAS as usize;
 
 // What the posts of a year have added up.
 #[derive(Clone, Copy, Default, PartialEq, Eq, Debug)]

@@ -12,14 +12,15 @@ const MAX_WH: u64 = 3_000_000_000_000;
 // The largest sum of charges, in millionths of a penny.
 const MAX_CHARGE: u64 = 3_000_000_000_000_000;
 
-// The largest volume adjustment, in kWh, and what it comes to in pence.
-const MAX_KWH: u64 = 3_000_000_000;
+// The largest volume adjustment, and the largest discrepancy of an area, in kWh; and what an adjustment comes to in pence.
+pub const MAX_KWH: u64 = 3_000_000_000;
 
 const MAX_VOLUME_PENCE: u64 = 300_000_000_000;
 
 // The largest cost adjustment, in pence.
 const MAX_COST: u64 = 3_000_000_000;
 
+#[tactic(auto, unfolding(crate::specs::Limits::sums_within))]
 pub(crate) fn sums_within(sums: Sums) -> bool
     ensures { result ≡ sums_within sums }
 {
@@ -29,6 +30,7 @@ pub(crate) fn sums_within(sums: Sums) -> bool
         && within(sums.delivery, MAX_CHARGE)
 }
 
+#[tactic(auto, unfolding(crate::specs::Limits::volume_within))]
 fn volume_within(volume: VolumeAdjustment) -> bool
     ensures { result ≡ volume_within volume }
 {
@@ -37,6 +39,7 @@ fn volume_within(volume: VolumeAdjustment) -> bool
         && within(volume.delivery, MAX_VOLUME_PENCE)
 }
 
+#[tactic(auto, unfolding(crate::specs::Limits::cell_within))]
 fn cell_within(cell: Cell) -> bool
     ensures { result ≡ cell_within cell }
 {
@@ -49,6 +52,7 @@ fn cells_within(cells: &[Cell]) -> bool
     cells.iter().all(|cell| cell_within(*cell))
 }
 
+#[tactic(auto, unfolding(crate::specs::Limits::account_within))]
 fn account_within(account: AccountRecord) -> bool
     ensures { result ≡ account_within account }
 {
@@ -62,6 +66,7 @@ fn accounts_within(accounts: &[AccountRecord]) -> bool
 }
 
 // Whether there is a cell for each account and area, and a record for each account.
+#[tactic(auto, unfolding(crate::specs::Limits::counts_right))]
 pub fn counts_are_right(cells: &[Cell], accounts: &[AccountRecord]) -> bool
     ensures { result ≡ counts_right (block cells.now accounts.now) }
 {

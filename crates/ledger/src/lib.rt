@@ -9,6 +9,6 @@ mod units;
 
 pub use adding::add_bill;
 pub use block::{AccountRecord, CELLS, Cell, Sums, VolumeAdjustment, cell_number};
-pub use checks::{block_is_sound, counts_are_right};
+pub use checks::{MAX_KWH, block_is_sound, counts_are_right};
 pub use clearing::clear;
 pub use units::{kwh_of, pence_of};

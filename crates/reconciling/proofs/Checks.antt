@@ -14,9 +14,6 @@ use Rattle.reconciling.specs.Outcomes.{or_then, fault_unless, lowest_area, unles
 use Rattle.reconciling.specs.Rows.{RangedRows}
 
 -- ---- one check before the next
-pub stopped : (b : Bool) (f : ReconcileFault) (next : Option ReconcileFault) → b ≡ false → or_then (fault_unless b f) next ≡ Some f
-stopped b f next e = ap (λ (x : Bool). or_then (fault_unless x f) next) e
-
 pub passed : (b : Bool) (f : ReconcileFault) (next : Option ReconcileFault) → b ≡ true → or_then (fault_unless b f) next ≡ next
 passed b f next e = ap (λ (x : Bool). or_then (fault_unless x f) next) e
 

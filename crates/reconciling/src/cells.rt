@@ -8,7 +8,7 @@ ghost use Rattle.reconciling.specs.declared.fault.ReconcileFault.TheVariants as 
 
 use crate::fault::ReconcileFault;
 use crate::in_range::{InRange, Ranged};
-use amounts::AREAS;
+use crate::places::cell_index;
 use ledger::{AccountRecord, Cell, block_is_sound};
 use std::marker::Model;
 
@@ -41,6 +41,7 @@ impl<'c> CheckedCells<'c> {
     ) -> Result<CheckedCells<'c>, ReconcileFault>
         ensures { result ≡ unless_fault (fault_unless (sound (block cells.now accounts.now)) fault.Block) cells.now }
     {
+        // No `then`: the value is made only where the test held.
         if block_is_sound(cells, accounts) {
             Ok(CheckedCells { cells })
         } else {
@@ -61,6 +62,6 @@ impl<'c> CheckedCells<'c> {
         requires area { area < areas }
         ensures { result ≡ cell_at self.now account area }
     {
-        InRange::of(self.cells[account * usize::from(AREAS) + area])
+        InRange::of(self.cells[cell_index(account, area)])
     }
 }

@@ -8,7 +8,7 @@ ghost use Rattle.reconciling.specs.Outcomes.{unless_fault, lowest_area};
 ghost use Rattle.reconciling.specs.declared.fault.ReconcileFault.TheVariants as fault;
 
 use crate::fault::ReconcileFault;
-use amounts::{ACCOUNTS, AREAS};
+use crate::places::{ACCOUNT_COUNT, AREA_COUNT, cell_index};
 use ledger::CELLS;
 
 // Writes an area's entries, one for each account. The entries are apart in the table, and of what is written through
@@ -22,19 +22,20 @@ fn write_column<T: Copy>(table: &mut [T], area: usize, column: &[T])
     ensures count { length table.new ≡ cell_count }
 {
     for (account, entry) in column.iter().enumerate() {
-        table[account * usize::from(AREAS) + area] = *entry;
+        table[cell_index(account, area)] = *entry;
     }
 }
 
 // The table with each area's column, or the fault of the lowest area that has none.
-pub(crate) fn table_by_area<T: Copy + Default, F: Fn(usize) -> Option<[T; ACCOUNTS as usize]>>(
+pub(crate) fn table_by_area<T: Copy + Default, F: Fn(usize) -> Option<[T; ACCOUNT_COUNT]>>(
     column_of: F,
 ) -> Result<[T; CELLS], ReconcileFault>
     requires { (area : ℕ) → area < areas → F.pre column_of area }
     ensures { (passes : ℕ → Bool) (entry : ℕ → ℕ → T) → ColumnsBy (F.post column_of) passes entry → result ≡ unless_fault (lowest_area passes (λ area. fault.AreaBeyondLimits area)) (map (λ i. entry (i / areas) (i % areas)) (range_with_len 0 cell_count)) }
 {
     let mut table = [T::default(); CELLS];
-    for area in 0..usize::from(AREAS) {
+    // A loop: of `try_from_fn` a proof knows that some area failed, and the fault names the lowest.
+    for area in 0..AREA_COUNT {
         let column = column_of(area).ok_or(ReconcileFault::AreaBeyondLimits { area })?;
         write_column(&mut table, area, &column);
     }

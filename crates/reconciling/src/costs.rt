@@ -13,16 +13,16 @@ use crate::columns::table_by_area;
 use crate::cost_lines::share_over_all;
 use crate::fault::ReconcileFault;
 use crate::in_range::InRange;
+use crate::places::ACCOUNT_COUNT;
 use crate::rows::CheckedRows;
 use crate::sheets::{CostSheet, check_cost_sheet};
-use amounts::ACCOUNTS;
 use ledger::{AccountRecord, CELLS, Cell};
 
 // The delivery cost adjustment of each cell, and the energy cost adjustment of each account, in pence.
 #[derive(Clone, Copy)]
 pub struct CostAdjustments {
     pub delivery: [i64; CELLS],
-    pub energy: [i64; ACCOUNTS as usize],
+    pub energy: [i64; ACCOUNT_COUNT],
 }
 
 // The adjustment of each account in the area, or none where a figure is beyond its limit.
@@ -30,7 +30,7 @@ fn area_delivery(
     cells: &CheckedCells<'_>,
     costs: &CheckedRows<'_, u64>,
     area: usize,
-) -> Option<[i64; ACCOUNTS as usize]>
+) -> Option<[i64; ACCOUNT_COUNT]>
     requires { area < areas }
     ensures { result ≡ (if delivery_in_limit cells.now costs.now area then Some (map (λ account. delivery_adjustment (sums_in cells.now) (volumes_in cells.now) costs.now account area) (range_with_len 0 accounts)) else None) }
 {
@@ -52,7 +52,7 @@ fn delivery_adjustments(
 fn energy_adjustments(
     cells: &CheckedCells<'_>,
     cost: &InRange<u64>,
-) -> Result<[i64; ACCOUNTS as usize], ReconcileFault>
+) -> Result<[i64; ACCOUNT_COUNT], ReconcileFault>
     ensures { result ≡ unless_fault (energy_limit_fault cells.now cost.now) (energy_adjustments (sums_in cells.now) (volumes_in cells.now) cost.now) }
 {
     let billed = Billed::for_energy(cells);

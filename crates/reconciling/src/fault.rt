@@ -1,7 +1,8 @@
 // Why a reconciliation is refused.
 ghost use Rattle.reconciling.specs.Faults.{refusal_of};
 
-use amounts::{AREAS, Fault, Refusal};
+use crate::places::AREA_COUNT;
+use amounts::{Fault, Refusal};
 
 #[derive(Clone, Copy, PartialEq, Eq, Debug)]
 pub enum ReconcileFault {
@@ -27,9 +28,9 @@ impl Fault for ReconcileFault {
             ReconcileFault::Block => Refusal::new(1, 0),
             ReconcileFault::SheetLength => Refusal::new(17, 0),
             ReconcileFault::AreaFigure { area } => Refusal::new(17, area),
-            ReconcileFault::EnergyFigure => Refusal::new(17, usize::from(AREAS)),
+            ReconcileFault::EnergyFigure => Refusal::new(17, AREA_COUNT),
             ReconcileFault::AreaBeyondLimits { area } => Refusal::new(18, area),
-            ReconcileFault::EnergyBeyondLimits => Refusal::new(18, usize::from(AREAS)),
+            ReconcileFault::EnergyBeyondLimits => Refusal::new(18, AREA_COUNT),
         }
     }
 }

@@ -37,6 +37,7 @@ impl<R: Ranged> InRange<R> {
         R: RangeTest,
         ensures { result ≡ (if R.in_range value then Some value else None) }
     {
+        // No `then`: the value is made only where the test held.
         if value.in_range() {
             Some(InRange { value })
         } else {

@@ -8,6 +8,7 @@ mod cost_lines;
 mod costs;
 mod fault;
 mod in_range;
+mod places;
 mod pricing;
 mod rows;
 mod sheets;

@@ -6,7 +6,7 @@ ghost use Rattle.reconciling.specs.Rows.{RangedRows};
 
 use crate::fault::ReconcileFault;
 use crate::in_range::{InRange, RangeTest, Ranged};
-use amounts::AREAS;
+use crate::places::AREA_COUNT;
 use std::marker::Model;
 
 #[derive(Drop)]
@@ -39,7 +39,7 @@ impl<'s, R: Ranged> CheckedRows<'s, R> {
         ensures answer { (d : R) → result ≡ unless_fault (rows_fault R.in_range d rows.now) rows.now }
         ensures ranged { OnOk result (RangedRows R.in_range rows.now) }
     {
-        if rows.len() != usize::from(AREAS) {
+        if rows.len() != AREA_COUNT {
             return Err(ReconcileFault::SheetLength);
         }
         match first_out(rows) {

@@ -29,8 +29,10 @@ pub struct CostSheet<'s> {
     pub energy: u64,
 }
 
+// The most that is supplied to an area, in kWh.
 const MAX_SUPPLIED: u64 = 3_000_000_000;
 
+// A whole, in ten-thousandths.
 const WHOLE: u16 = 10_000;
 
 // The highest cost, in pence.
@@ -41,6 +43,7 @@ impl Ranged for AreaRow {
 }
 
 impl RangeTest for AreaRow {
+    #[tactic(auto, unfolding(crate::specs::Sheets::row_in_range))]
     fn in_range(&self) -> bool {
         self.supplied <= MAX_SUPPLIED
             && self.share <= WHOLE
@@ -49,12 +52,13 @@ impl RangeTest for AreaRow {
     }
 }
 
-// A cost in pence.
+// A cost in pence. On u64 itself, since the sheet lends plain numbers.
 impl Ranged for u64 {
     ghost in_range = { cost_in_range };
 }
 
 impl RangeTest for u64 {
+    #[tactic(auto, unfolding(crate::specs::Sheets::cost_in_range))]
     fn in_range(&self) -> bool {
         *self <= MAX_COST
     }

@@ -9,13 +9,13 @@ ghost use Rattle.reconciling.specs.Sharing.{that_count, over_operators};
 ghost use Rattle.reconciling.specs.Volumes.{volume_weight, operator_weights};
 
 use crate::cells::CheckedCells;
-use amounts::ACCOUNTS;
+use crate::places::ACCOUNT_COUNT;
 use ledger::kwh_of;
 use sharing::{AccountQuantity, Kwh, share};
 use std::array;
 
 // How many accounts are operators': all but the infrastructure manager's.
-const OPERATORS: usize = 63;
+const OPERATORS: usize = ACCOUNT_COUNT - 1;
 
 // The account's line.
 fn volume_line(cells: &CheckedCells<'_>, account: usize, area: usize) -> AccountQuantity<Kwh>
@@ -24,6 +24,7 @@ fn volume_line(cells: &CheckedCells<'_>, account: usize, area: usize) -> Account
     ensures account { result.account ≡ account }
     ensures weight { result.quantity.0 ≡ volume_weight (sums_in cells.now account area) }
 {
+    // `as`, since the account is below 64: `try_from` would bring a failure that cannot come.
     AccountQuantity {
         account: account as u8,
         quantity: Kwh(kwh_of(cells.at(account, area).get().sums.modelled)),
@@ -45,13 +46,13 @@ pub(crate) fn share_over_operators(
     amount: i64,
     cells: &CheckedCells<'_>,
     area: usize,
-) -> Option<[i64; ACCOUNTS as usize]>
+) -> Option<[i64; ACCOUNT_COUNT]>
     requires before { unsigned_abs before ≤ max_kwh }
     requires area { area < areas }
     ensures { result ≡ (if figures_in_limit amount (operator_weights (sums_in cells.now) area) then Some (map (over_operators before amount (that_count (operator_weights (sums_in cells.now) area))) (range_with_len 0 accounts)) else None) }
 {
     let lines = volume_lines(cells, area);
-    let mut adjustments = [0; ACCOUNTS as usize];
+    let mut adjustments = [0; ACCOUNT_COUNT];
     let unshared = share(amount, &lines, &mut adjustments[1..]).ok()?;
     adjustments[0] = before + unshared;
     Some(adjustments)

@@ -1,31 +1,28 @@
 // The volume reconciliation: what each area was supplied above or below what was billed, shared over its accounts.
 ghost use Rattle.std.specs.Prelude.{◌≡◌, ◌<◌, ◌≤◌, map, IfOk, if◌then◌else◌, Some, None, unsigned_abs};
 ghost use Rattle.std.specs.List.{range_with_len};
-ghost use Rattle.amounts.specs.Quotients.{quotient_cut};
 ghost use Rattle.amounts.specs.Ranges.{accounts, areas, within};
 ghost use Rattle.ledger.specs.Blocks.{block};
 ghost use Rattle.ledger.specs.Limits.{max_kwh};
 ghost use Rattle.reconciling.specs.Laws.{FairVolumes};
 ghost use Rattle.reconciling.specs.Limits.{max_billed_kwh};
 ghost use Rattle.reconciling.specs.Outcomes.{sums_in, unless_fault, discrepancy_in_limit, volume_limit_fault, volume_outcome};
-ghost use Rattle.reconciling.specs.Sheets.{row_at, whole};
+ghost use Rattle.reconciling.specs.Sheets.{row_at};
 ghost use Rattle.reconciling.specs.Volumes.{billed_kwh, discrepancy, managers_kwh, volume_kwh, volume_adjustment, volume_adjustments};
 
 use crate::cells::CheckedCells;
 use crate::columns::table_by_area;
 use crate::fault::ReconcileFault;
 use crate::in_range::InRange;
+use crate::places::ACCOUNT_COUNT;
 use crate::pricing::price_adjustments;
 use crate::rows::CheckedRows;
 use crate::sheets::{AreaRow, check_area_sheet};
 use crate::signed::total;
 use crate::volume_lines::share_over_operators;
-use amounts::{ACCOUNTS, Divisor, cut, within};
-use ledger::{AccountRecord, CELLS, Cell, VolumeAdjustment, kwh_of};
+use amounts::{Divisor, cut, within};
+use ledger::{AccountRecord, CELLS, Cell, MAX_KWH, VolumeAdjustment, kwh_of};
 use std::array;
-
-// The largest discrepancy, up or down, in kWh.
-const MAX_KWH: u64 = 3_000_000_000;
 
 // Metered and modelled, each rounded.
 fn billed_kwh(cell: &InRange<Cell>) -> i64
@@ -41,24 +38,19 @@ fn discrepancy_of(cells: &CheckedCells<'_>, row: &InRange<AreaRow>, area: usize)
     requires { area < areas }
     ensures { result ≡ discrepancy (sums_in cells.now) row.now area }
 {
-    let kwh: [i64; ACCOUNTS as usize] = array::from_fn(|i| billed_kwh(&cells.at(i, area)));
+    let kwh: [i64; ACCOUNT_COUNT] = array::from_fn(|i| billed_kwh(&cells.at(i, area)));
+    // `as`, since a u64 has no From to i64. What was supplied is in its range.
     row.get().supplied as i64 - total(&kwh)
 }
 
-// Ten-thousandths as kWh, cut towards zero.
-fn whole_kwh(ten_thousandths: i64) -> i64
-    ensures { result ≡ quotient_cut ten_thousandths whole }
-{
-    cut(ten_thousandths, Divisor::TEN_THOUSANDTHS)
-}
-
-// The infrastructure manager's share of a discrepancy.
+// The infrastructure manager's share of a discrepancy, in whole kWh, cut towards zero.
 fn managers_kwh(discrepancy: i64, row: &InRange<AreaRow>) -> i64
     requires { unsigned_abs discrepancy ≤ max_kwh }
     ensures answer { result ≡ managers_kwh discrepancy row.now }
     ensures bound { unsigned_abs result ≤ max_kwh }
 {
-    whole_kwh(discrepancy * i64::from(row.get().share))
+    let ten_thousandths = discrepancy * i64::from(row.get().share);
+    cut(ten_thousandths, Divisor::TEN_THOUSANDTHS)
 }
 
 // The adjustment of each account in the area, or none where the discrepancy is beyond its limit.
@@ -66,7 +58,7 @@ fn area_kwh(
     cells: &CheckedCells<'_>,
     row: &InRange<AreaRow>,
     area: usize,
-) -> Option<[i64; ACCOUNTS as usize]>
+) -> Option<[i64; ACCOUNT_COUNT]>
     requires { area < areas }
     ensures { result ≡ (if within (discrepancy (sums_in cells.now) row.now area) max_kwh then Some (map (λ account. volume_kwh (sums_in cells.now) row.now account area) (range_with_len 0 accounts)) else None) }
 {
@@ -85,7 +77,7 @@ fn area_adjustments(
     cells: &CheckedCells<'_>,
     sheet: &CheckedRows<'_, AreaRow>,
     area: usize,
-) -> Option<[VolumeAdjustment; ACCOUNTS as usize]>
+) -> Option<[VolumeAdjustment; ACCOUNT_COUNT]>
     requires { area < areas }
     ensures { result ≡ (if discrepancy_in_limit cells.now sheet.now area then Some (map (λ account. volume_adjustment (sums_in cells.now) sheet.now account area) (range_with_len 0 accounts)) else None) }
 {

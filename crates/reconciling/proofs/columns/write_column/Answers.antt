@@ -7,7 +7,7 @@ loop-account-init g c = column_none c.args.table.now c.args.column.now c.args.ar
 
 pub loop-account-preserved : goal.loop-account-preserved
 loop-account-preserved g c =
-    rw c.from.ensures
+    rw c.cell_index.ensures
     (column_more c.args.table.now c.args.column.now c.args.area c.loop-account.table c.loop-account.account c.index-column-account.result c.loop-account.invariant
     (omega (arith, c.requires.table)) (omega (arith, c.requires.column)) c.requires.area c.loop-account-test.true c.index-column-account.is)
 

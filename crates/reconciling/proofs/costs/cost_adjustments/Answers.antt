@@ -113,12 +113,12 @@ returns c =
     let parts = energy_adjustments (sums_in b.cells) (volumes_in b.cells) energy in
     let whole = whole_if b costs energy c.in_ok-cells.cells c.in_ok-cells.ensures in
     let sheet = checked_if b costs energy c.in_ok-costs.costs c.in_ok-costs.ensures.answer in
-    let told = c.in_ok-delivery.ensures ∙ delivery_of b.cells c.in_ok-cells.cells whole.1 costs c.in_ok-costs.costs.delivery (ap (λ (k : CheckedCosts). k.delivery) sheet.1) in
-    let told_energy = c.in_ok-energy.ensures ∙ energy_of b.cells c.in_ok-cells.cells whole.1 energy c.in_ok-costs.costs.energy (ap (λ (k : CheckedCosts). k.energy) sheet.1) in
-    let delivery = no_fault_if (delivery_limit_fault b.cells costs) table c.in_ok-delivery.delivery told in
-    let network = no_fault_if (energy_limit_fault b.cells energy) parts c.in_ok-energy.energy told_energy in
+    let delivery_owed = c.in_ok-delivery.ensures ∙ delivery_of b.cells c.in_ok-cells.cells whole.1 costs c.in_ok-costs.costs.delivery (ap (λ (k : CheckedCosts). k.delivery) sheet.1) in
+    let energy_owed = c.in_ok-energy.ensures ∙ energy_of b.cells c.in_ok-cells.cells whole.1 energy c.in_ok-costs.costs.energy (ap (λ (k : CheckedCosts). k.energy) sheet.1) in
+    let delivery = no_fault_if (delivery_limit_fault b.cells costs) table c.in_ok-delivery.delivery delivery_owed in
+    let network = no_fault_if (energy_limit_fault b.cells energy) parts c.in_ok-energy.energy energy_owed in
     let same : both c.in_ok-delivery.delivery c.in_ok-energy.energy ≡ cost_adjustments b.cells costs energy =
-    ap₂ both (value_if (delivery_limit_fault b.cells costs) table c.in_ok-delivery.delivery told) (value_if (energy_limit_fault b.cells energy) parts c.in_ok-energy.energy told_energy) in
+    ap₂ both (value_if (delivery_limit_fault b.cells costs) table c.in_ok-delivery.delivery delivery_owed) (value_if (energy_limit_fault b.cells energy) parts c.in_ok-energy.energy energy_owed) in
     record {
       answer = ap Ok same ∙ sym (by_checks b costs energy None None None None whole.0 sheet.0 delivery network);
       fair = subst (FairCosts b.cells costs energy) (sym same) (fair_costs b.cells costs energy);
