@@ -61,9 +61,17 @@ module _ (a : ℕ) (ws : List ℕ) where
   before_is : (n i : ℕ) → before (claims_of a ws n) (claim_at a ws i) ≡ rank_by (weight_at ws) (remainder a ws) n i
   before_is n i = sum_by_is _ (claim_at a ws) n
 
+  -- of as many claims as lines
+  module _ (cs : List Claim) (is : cs ≡ claims_of a ws (length ws)) where
+    pub quotients_fit : 0 < total_weight ws → sum_by (λ (c : Claim). c.quotient) cs ≤ a
+    quotients_fit some = omega (arith, ap (sum_by (λ (c : Claim). c.quotient)) is, quotients_are (length ws), quotients_within a ws some)
+
+    pub left_over : a - sum_by (λ (c : Claim). c.quotient) cs ≡ leftover a ws
+    left_over = ap (λ x. a - x) (ap (sum_by (λ (c : Claim). c.quotient)) is ∙ quotients_are (length ws))
+
   -- the claims of the lines, at the front of an array
   module _ (cs : List Claim) (is : cs ≡ claims_of a ws max_lines) (few : length ws ≤ max_lines) where
-    lines_claims : take (length ws) cs ≡ claims_of a ws (length ws)
+    pub lines_claims : take (length ws) cs ≡ claims_of a ws (length ws)
     lines_claims = ap (take (length ws)) is ∙ take-map-range_with_len (claim_at a ws) 0 max_lines (length ws) few
 
     pub inside : (i : ℕ) → i < length (take (length ws) cs) → i < length ws
@@ -75,13 +83,7 @@ module _ (a : ℕ) (ws : List ℕ) where
     pub index_is : (i : ℕ) (d : Claim) → i < length (take (length ws) cs) → (get_or (take (length ws) cs) i d).index ≡ i
     index_is i d l = ap (λ (o : Claim). o.index) (claim_is i d l)
 
-    pub quotients_fit : 0 < total_weight ws → sum_by (λ (c : Claim). c.quotient) (take (length ws) cs) ≤ a
-    quotients_fit some = omega (arith, ap (sum_by (λ (c : Claim). c.quotient)) lines_claims, quotients_are (length ws), quotients_within a ws some)
-
-    left_over : a - sum_by (λ (c : Claim). c.quotient) (take (length ws) cs) ≡ leftover a ws
-    left_over = ap (λ x. a - x) (ap (sum_by (λ (c : Claim). c.quotient)) lines_claims ∙ quotients_are (length ws))
-
-    pub units_are : (i u : ℕ) (d : Claim) → i < length (take (length ws) cs) → u ≡ a - sum_by (λ (c : Claim). c.quotient) (take (length ws) cs) → units (get_or (take (length ws) cs) i d) (take (length ws) cs) u ≡ size a ws i
+    pub units_are : (i u : ℕ) (d : Claim) → i < length (take (length ws) cs) → u ≡ leftover a ws → units (get_or (take (length ws) cs) i d) (take (length ws) cs) u ≡ size a ws i
     units_are i u d l e =
         ap (λ o. units o (take (length ws) cs) u) (claim_is i d l)
-        ∙ ap₂ (λ x y. quotient a ws i + one (ltb 0 (weight_at ws i) && ltb x y)) (ap (λ xs. before xs (claim_at a ws i)) lines_claims ∙ before_is (length ws) i) (e ∙ left_over)
+        ∙ ap₂ (λ x y. quotient a ws i + one (ltb 0 (weight_at ws i) && ltb x y)) (ap (λ xs. before xs (claim_at a ws i)) lines_claims ∙ before_is (length ws) i) e

@@ -29,24 +29,15 @@ pub(crate) fn figures_in_limit<L: Weighted>(amount: i64, lines: &[L]) -> bool
     within(amount, MAX_AMOUNT) && lines.len() <= MAX_LINES && weights_in_limit(lines)
 }
 
-// Whether the account exists and is at least `low`.
-fn may_follow(low: u8, account: u8) -> bool
-    ensures { result ≡ (nat_le low account && account_exists account) }
+fn accounts_exist<L: AccountLine>(lines: &[L]) -> bool
+    ensures { result ≡ list_all (λ line. account_exists (L.account line)) lines.now }
 {
-    low <= account && account_exists(account)
+    lines.iter().all(|line| account_exists(line.account()))
 }
 
-// Whether the accounts exist and rise. A loop, since each account moves the bound of the next.
+// Whether the accounts exist and rise.
 pub(crate) fn accounts_rise<L: AccountLine>(lines: &[L]) -> bool
     ensures { result ≡ rising 0 (map L.account lines.now) }
 {
-    let mut low = 0;
-    for line in lines {
-        let account = line.account();
-        if !may_follow(low, account) {
-            return false;
-        }
-        low = account + 1;
-    }
-    true
+    lines.is_sorted_by(|a, b| a.account() < b.account()) && accounts_exist(lines)
 }

@@ -1,12 +1,7 @@
 // What each line claims of an amount, and which claims get one of the units left over.
-ghost use Rattle.std.specs.Prelude.{◌≡◌, ◌≤◌};
-ghost use Rattle.sharing.specs.Claims.{claim_at, claims_of, comes_before, has_extra};
-ghost use Rattle.sharing.specs.Limits.{WithinLimits, max_amount, max_lines};
-ghost use Rattle.sharing.specs.Shares.{total_weight};
-
-use crate::checks::MAX_LINES;
-use amounts::Divisor;
-use std::array;
+ghost use Rattle.std.specs.Prelude.{◌≡◌, ◌≤◌, sum_by};
+ghost use Rattle.sharing.specs.Claims.{comes_before, has_extra};
+ghost use Rattle.sharing.specs.Limits.{max_amount};
 
 // The exact share of the line at `index`: the whole units, and what remains by which it is ranked.
 #[derive(Clone, Copy)]
@@ -17,30 +12,12 @@ pub(crate) struct Claim {
     pub(crate) remainder: u64,
 }
 
-// The claim of the line at `index`; past the lines it has no weight.
-fn claim_at(size: u64, weights: &[u64], total: Divisor, index: usize) -> Claim
-    requires limits { WithinLimits weights.now }
-    requires small { size ≤ max_amount }
-    requires total { total.value ≡ total_weight weights.now }
-    ensures { result ≡ claim_at size weights.now index }
+// What the claims have as quotients in all.
+pub(crate) fn claimed(claims: &[Claim]) -> u64
+    requires { sum_by (λ (c : Claim). c.quotient) claims.now ≤ max_amount }
+    ensures { result ≡ sum_by (λ (c : Claim). c.quotient) claims.now }
 {
-    let weight = weights.get(index).copied().unwrap_or(0);
-    let product = size * weight;
-    Claim {
-        index,
-        weight,
-        quotient: product / total.get(),
-        remainder: product % total.get(),
-    }
-}
-
-pub(crate) fn claims_of(size: u64, weights: &[u64], total: Divisor) -> [Claim; MAX_LINES]
-    requires limits { WithinLimits weights.now }
-    requires small { size ≤ max_amount }
-    requires total { total.value ≡ total_weight weights.now }
-    ensures { result ≡ claims_of size weights.now max_lines }
-{
-    array::from_fn(|index| claim_at(size, weights, total, index))
+    claims.iter().map(|claim| claim.quotient).sum()
 }
 
 // Whether `other` takes part and has the larger remainder, or an equal one and comes earlier.
@@ -60,5 +37,6 @@ pub(crate) fn gets_extra(own: &Claim, claims: &[Claim], leftover: u64) -> bool
         .iter()
         .filter(|other| comes_before(other, own))
         .count();
+    // A usize has no From to u64.
     own.weight > 0 && (rank as u64) < leftover
 }

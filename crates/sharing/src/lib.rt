@@ -11,6 +11,7 @@ mod claims;
 mod fault;
 mod line;
 mod quantity;
+mod shared;
 mod spreading;
 mod weights;
 

@@ -1,15 +1,16 @@
 // The parts of one sharing whose figures are within their limits.
-ghost use Rattle.std.specs.Prelude.{◌≡◌, ◌-◌, ◌≤◌, length, sum_by, unsigned_abs};
+ghost use Rattle.std.specs.Prelude.{◌≡◌, ◌≤◌, length, unsigned_abs};
 ghost use Rattle.amounts.specs.Quotients.{with_sign};
 ghost use Rattle.sharing.specs.Claims.{units};
 ghost use Rattle.sharing.specs.Limits.{WithinLimits, max_amount};
 ghost use Rattle.sharing.specs.Shares.{part, unshared, written};
 
-use crate::claims::{Claim, claims_of, gets_extra};
+use crate::claims::{Claim, gets_extra};
+use crate::shared::Shared;
 use crate::weights::total_of;
 use amounts::Divisor;
 
-// `size` with the sign of `amount`.
+// `size` with the sign of `amount`. `as` loses nothing: the size is at most the largest amount.
 fn with_sign(amount: i64, size: u64) -> i64
     requires { size ≤ max_amount }
     ensures { result ≡ with_sign amount size }
@@ -19,14 +20,6 @@ fn with_sign(amount: i64, size: u64) -> i64
     } else {
         size as i64
     }
-}
-
-// The units left over when each claim has its quotient.
-fn leftover(size: u64, claims: &[Claim]) -> u64
-    requires { sum_by (λ (c : Claim). c.quotient) claims.now ≤ size }
-    ensures { result ≡ size - sum_by (λ (c : Claim). c.quotient) claims.now }
-{
-    size - claims.iter().map(|claim| claim.quotient).sum::<u64>()
 }
 
 // The part of the amount that the claim gets.
@@ -50,10 +43,15 @@ pub(crate) fn spread(amount: i64, weights: &[u64], parts: &mut [i64]) -> i64
         parts[..weights.len()].fill(0);
         return amount;
     };
-    let size = amount.unsigned_abs();
-    let claims = claims_of(size, weights, total);
+    let shared = Shared {
+        size: amount.unsigned_abs(),
+        weights,
+        total,
+    };
+    let claims = shared.claims();
     let claims = &claims[..weights.len()];
-    let leftover = leftover(size, claims);
+    let leftover = shared.leftover(claims);
+    // By its index: after a `zip` with `iter_mut` a proof knows nothing of what was written.
     for claim in claims {
         parts[claim.index] = part_of(amount, claim, claims, leftover);
     }

@@ -25,7 +25,7 @@ fn weight_at<L: Weighted>(lines: &[L], index: usize) -> u64
         .map_or(0, |line| counting_weight(line.weight()))
 }
 
-// What counts of each line's weight, and nothing past the lines.
+// What counts of each line's weight. No heap: an array of the most lines, of which the first are used.
 pub(crate) fn weights_of<L: Weighted>(lines: &[L]) -> [u64; MAX_LINES]
     ensures { result ≡ map (weight_at (map counting_weight (map L.weight lines.now))) (range_with_len 0 max_lines) }
 {

@@ -1,7 +1,0 @@
-use Rattle.std.proofs.Common.{rules}
-use Rattle.sharing.specs.Claims.{claim_at}
-use Rattle.amounts.proofs.Made.{made}
-use Rattle.sharing.proofs.claims.claims_of.Goals as goal
-
-pub returns : goal.returns
-returns c = made _ _ (claim_at c.args.size c.args.weights.now) (λ i y q h. search rules) c.from_fn.result 64 c.from_fn.ensures.items (claim_at c.args.size c.args.weights.now 0)
