@@ -6,7 +6,7 @@ ghost use Rattle.records.specs.Records.{described_metered};
 ghost use Rattle.billing.specs.Filling.{needs_value, first_needing, net, WholeRecord};
 ghost use Rattle.billing.specs.Limits.{max_net};
 
-use crate::filling::{asks_regeneration, fill_of, has_reading, total_filled};
+use crate::filling::{asks_regeneration, fill_of, total_filled};
 use books::SlotValues;
 use records::{Billing, Metered, MeteredLeg};
 use std::marker::Model;
@@ -55,8 +55,9 @@ impl<'a> CheckedMetered<'a> {
         ensures { result ≡ needs_value self.now slot }
     {
         let metered = self.metered;
-        !has_reading(metered.consumption, slot)
-            || asks_regeneration(metered.leg) && !has_reading(metered.regeneration, slot)
+        !metered.consumption.is_some_and(|block| block.has_reading(slot))
+            || asks_regeneration(metered.leg)
+                && !metered.regeneration.is_some_and(|block| block.has_reading(slot))
     }
 
     // The lowest slot that needs a value.
@@ -76,6 +77,7 @@ impl<'a> CheckedMetered<'a> {
         let fill = fill_of(metered.leg, values);
         let consumption = total_filled(metered.consumption, metered.slots, fill.consumption);
         let regeneration = total_filled(metered.regeneration, metered.slots, fill.regeneration);
+        // `as` loses nothing: both are at most what 64 slots hold.
         consumption as i64 - regeneration as i64
     }
 }

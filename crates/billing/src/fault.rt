@@ -80,7 +80,7 @@ impl Fault for PostFault {
     }
 }
 
-// A fault of the reader is handed on whole.
+// Here and below by hand, so that a clause can say which fault a `?` hands on. A fault of the reader is handed on whole.
 impl From<RecordFault> for PostFault {
     ghost from_gives = { λ f p. p ≡ post.Record f };
 

@@ -1,8 +1,8 @@
 // Missing readings: which slot needs a value, and what the slots come to once they are filled.
-ghost use Rattle.std.specs.Prelude.{◌≡◌, ◌*◌, ◌≤◌, not, sum};
+ghost use Rattle.std.specs.Prelude.{◌≡◌, ◌*◌, ◌≤◌, sum};
 ghost use Rattle.std.specs.Option.{option_map};
 ghost use Rattle.books.specs.Answers.{ValuesInRange};
-ghost use Rattle.records.specs.Blocks.{described_block, has_reading};
+ghost use Rattle.records.specs.Blocks.{described_block};
 ghost use Rattle.records.specs.Laws.{BlockRanged, LegRanged, LoadRanged};
 ghost use Rattle.records.specs.Limits.{max_slots};
 ghost use Rattle.lines.specs.Limits.{max_infill};
@@ -13,9 +13,6 @@ use amounts::{Divisor, rounded};
 use books::SlotValues;
 use lines::MeteredKind;
 use records::{MeteredLeg, ReadingBlock};
-
-// Thousandths in a Wh.
-const THOUSANDTHS: u64 = 1_000;
 
 // What stands in for missing readings of one slot, in Wh.
 #[derive(Clone, Copy)]
@@ -42,12 +39,12 @@ fn hauled_value(value: u32, weight: u16, locomotives: u8) -> u64
     ensures value { result ≡ hauled_value value weight locomotives }
     ensures bound { result ≤ max_slot_value }
 {
-    // One locomotive at least, so the divisor is there; no narrower number type holds the product without a cast.
-    let Some(divisor) = Divisor::new(THOUSANDTHS * u64::from(locomotives)) else {
+    // One locomotive at least, so the divisor is there.
+    let Some(divisor) = Divisor::new(Divisor::THOUSANDTHS.get() * u64::from(locomotives)) else {
         unreachable!()
     };
-    let product = u64::from(value) * u64::from(weight);
-    rounded(product as i64, divisor).unsigned_abs()
+    let product = i64::from(value) * i64::from(weight);
+    rounded(product, divisor).unsigned_abs()
 }
 
 // What stands in for missing readings of a leg.
@@ -94,12 +91,6 @@ pub(crate) fn total_filled(block: Option<ReadingBlock>, slots: u8, fill: u64) ->
             block.total() + missing * fill
         }
     }
-}
-
-pub(crate) fn has_reading(block: Option<ReadingBlock>, slot: u8) -> bool
-    ensures { result ≡ has_reading (option_map described_block block.entry) slot }
-{
-    block.is_some_and(|block| block.has_reading(slot))
 }
 
 // Whether a book is asked for missing regeneration.

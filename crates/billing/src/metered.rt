@@ -6,14 +6,14 @@ ghost use Rattle.billing.specs.Bills.{fill_values, metered_volume};
 ghost use Rattle.billing.specs.Filling.{kind_of, first_needing};
 
 use crate::bill::{Span, Volume};
-use crate::categories::line_for_leg;
+use crate::categories::unit_fits_leg;
 use crate::checked::CheckedMetered;
 use crate::fault::BookFault;
 use crate::filling::kind_of;
 use crate::tables::Tables;
 use crate::volume::metered_wh;
 use books::{InfillBook, SlotValues, TariffBook};
-use lines::find_loss;
+use lines::{find_category, find_loss};
 
 // The values to fill with. A record with no missing reading asks no book.
 fn fill_values<I: InfillBook>(
@@ -25,10 +25,7 @@ fn fill_values<I: InfillBook>(
     ensures range { IfOk result ValuesInRange }
 {
     let Some(slot) = metered.first_needing() else {
-        return Ok(SlotValues {
-            consumption: 0,
-            regeneration: 0,
-        });
+        return Ok(SlotValues::default());
     };
     let billing = metered.billing();
     let kind = kind_of(metered.leg());
@@ -54,15 +51,16 @@ pub(crate) fn metered_volume<T: TariffBook, I: InfillBook>(
 {
     let Span { place, next } = span;
     let billing = metered.billing();
-    let line = line_for_leg(tables.categories, billing.category, metered.leg()).ok_or(
-        BookFault::Category { place, next },
-    )?;
+    let leg = metered.leg();
+    let line = find_category(tables.categories, billing.category)
+        .filter(|line| unit_fits_leg(leg, line.unit()))
+        .ok_or(BookFault::Category { place, next })?;
     let loss = find_loss(tables.losses, billing.area, line.electricity()).ok_or(BookFault::Loss {
         place,
         next,
     })?;
     let values = fill_values(tables.infill, metered, span)?;
     let net = metered.net(values);
-    let wh = metered_wh(net, line.power_factor(), loss.loss());
+    let wh = metered_wh(net, &line, &loss);
     Ok(Volume::Metered { net, wh })
 }

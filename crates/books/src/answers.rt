@@ -8,7 +8,7 @@ pub struct Prices {
 }
 
 // What stands in for missing readings of one slot, in Wh; for a hauled journey in thousandths of a Wh per tonne of weight ÷ locomotives.
-#[derive(Clone, Copy, PartialEq, Eq, Debug)]
+#[derive(Clone, Copy, Default, PartialEq, Eq, Debug)]
 pub struct SlotValues {
     pub consumption: u32,
     pub regeneration: u32,

@@ -9,13 +9,10 @@ use crate::answers::Prices;
 use crate::book::TariffBook;
 use crate::fault::FigureFault;
 use crate::quotient::rounded_quotient;
-use amounts::{Divisor, MAX_PRICE, price_in_range};
+use amounts::{Divisor, price_in_range};
 
 // The highest expected delivery cost, in pence.
 const MAX_EXPECTED_COST: u64 = 1_000_000_000_000;
-
-// Thousandths in a penny.
-const THOUSANDTHS: u64 = 1_000;
 
 #[derive(Clone, Copy, PartialEq, Eq, Debug)]
 pub struct BlendedTariff {
@@ -35,10 +32,11 @@ impl BlendedTariff {
             return Err(FigureFault::OutOfRange);
         }
         let kwh = Divisor::new(expected_kwh).ok_or(FigureFault::OutOfRange)?;
-        let delivery = u32::try_from(rounded_quotient(THOUSANDTHS * expected_cost, kwh)).map_err(
+        let thousandths = Divisor::THOUSANDTHS.get() * expected_cost;
+        let delivery = u32::try_from(rounded_quotient(thousandths, kwh)).map_err(
             |_| FigureFault::OutOfRange,
         )?;
-        if delivery > MAX_PRICE {
+        if !price_in_range(delivery) {
             return Err(FigureFault::OutOfRange);
         }
         Ok(BlendedTariff { energy, delivery })

@@ -1,8 +1,7 @@
 // The rate infill book: values from the rates of categories, at one speed.
 ghost use Rattle.std.specs.Prelude.{◌≡◌, ◌≤◌};
 ghost use Rattle.lines.specs.Contents.{contents};
-ghost use Rattle.lines.specs.Limits.{max_rate, max_discount};
-ghost use Rattle.books.specs.Figures.{max_speed, max_rate_consumption, rate_consumption, rate_regeneration};
+ghost use Rattle.books.specs.Figures.{max_rate_consumption, rate_consumption, rate_regeneration};
 ghost use Rattle.books.specs.InfillBooks.{journey_fits, rate_of, RateTable};
 
 use crate::answers::SlotValues;
@@ -30,23 +29,21 @@ fn journey_fits(kind: MeteredKind, unit: UnitKind) -> bool
 }
 
 // What a slot at that speed consumes. Here and below `as` loses nothing, and a `try_from` would add a case that never comes.
-fn consumption_at(rate: u32, speed: u16) -> u32
-    requires rate { rate ≤ max_rate }
-    requires speed { speed ≤ max_speed }
-    ensures value { result ≡ rate_consumption rate speed }
+fn consumption_at(line: &CategoryLine, speed: Speed) -> u32
+    ensures value { result ≡ rate_consumption line.now.rate speed.value }
     ensures range { result ≤ max_rate_consumption }
 {
-    rounded_quotient(u64::from(rate) * u64::from(speed), Divisor::HUNDREDTHS) as u32
+    let product = u64::from(line.rate()) * u64::from(speed.get());
+    rounded_quotient(product, Divisor::HUNDREDTHS) as u32
 }
 
 // What of it is regenerated.
-fn regeneration_of(consumption: u32, discount: u16) -> u32
-    requires consumption { consumption ≤ max_rate_consumption }
-    requires discount { discount ≤ max_discount }
-    ensures value { result ≡ rate_regeneration consumption discount }
+fn regeneration_of(consumption: u32, line: &CategoryLine) -> u32
+    requires { consumption ≤ max_rate_consumption }
+    ensures value { result ≡ rate_regeneration consumption line.now.discount }
     ensures range { result ≤ max_rate_consumption }
 {
-    let discounted = u64::from(consumption) * u64::from(discount);
+    let discounted = u64::from(consumption) * u64::from(line.discount());
     rounded_quotient(discounted, Divisor::TEN_THOUSANDTHS) as u32
 }
 
@@ -64,14 +61,14 @@ impl<'t, 'm> InfillBook for RateInfill<'t, 'm> {
     ghost values = { λ b kind category area band. rate_of (contents b.categories.now) b.speed.value kind category area band };
 
     fn values(&self, kind: MeteredKind, category: u16, _area: u8, _band: u8) -> Option<SlotValues> {
-        let line = find_category(self.categories, category)?;
-        if !journey_fits(kind, line.unit()) {
-            return None;
-        }
-        let consumption = consumption_at(line.rate(), self.speed.get());
+        let line = find_category(self.categories, category).filter(|line| journey_fits(
+            kind,
+            line.unit(),
+        ))?;
+        let consumption = consumption_at(&line, self.speed);
         Some(SlotValues {
             consumption,
-            regeneration: regeneration_of(consumption, line.discount()),
+            regeneration: regeneration_of(consumption, &line),
         })
     }
 }

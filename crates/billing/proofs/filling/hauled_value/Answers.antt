@@ -1,10 +1,11 @@
-use Rattle.std.proofs.Common.{◌≡◌, ℕ, ◌*◌, ◌<◌, ◌≤◌, nat_abs, ap, ◌∙◌, ap₂, arith, w64, to_z}
+use Rattle.std.proofs.Common.{◌≡◌, ℕ, ◌*◌, ◌<◌, ◌≤◌, ◌*ℤ◌, nat_abs, ap, ◌∙◌, ap₂, arith, w64}
 use Rattle.std.proofs.lemmas.Nat.{mul-le}
-use Rattle.std.proofs.lemmas.Int.{to_z-of_z, to_z_pos}
+use Rattle.std.proofs.lemmas.Int.{to_z-of_z}
 use Rattle.amounts.specs.Quotients.{quotient_rounded}
 use Rattle.billing.specs.Limits.{max_slot_value}
 use Rattle.billing.specs.Filling.{hauled_value}
 use Rattle.books.proofs.Bounds.{rounded_le}
+use Rattle.billing.proofs.Products.{machine_natural}
 use Rattle.billing.proofs.filling.hauled_value.Goals as goal
 
 product_within : (v w : ℕ) → v ≤ 2000000 → w ≤ 10000 → v * w ≤ 20000000000
@@ -14,8 +15,10 @@ value : (c : goal.After-unsigned_abs) → c.unsigned_abs.result ≡ hauled_value
 value c =
     let v = c.args.value in
     let w = c.args.weight in
-    let product = ap (to_z w64) (ap₂ (λ a b. a * b) c.from-2.ensures c.from-3.ensures) ∙ to_z_pos w64 (v * w) (omega (arith, product_within v w c.requires.value c.requires.load.weight)) in
-    let divisor = c.in-Some.ensures.value ∙ ap (λ l. 1000 * l) c.from.ensures in
+    let small = product_within v w c.requires.value c.requires.load.weight in
+    let factors = ap₂ ◌*ℤ◌ (machine_natural c.from-2.result v c.from-2.ensures (omega (arith, c.requires.value))) (machine_natural c.from-3.result w c.from-3.ensures (omega (arith, c.requires.load.weight))) in
+    let product = machine_natural _ (v * w) factors (omega (arith, small)) in
+    let divisor = c.in-Some.ensures.value ∙ ap₂ ◌*◌ c.get.ensures c.from.ensures in
     c.unsigned_abs.ensures.value
     ∙ ap nat_abs (to_z-of_z w64 c.rounded.result (record { sfits = c.rounded.type_inv }) ∙ c.rounded.ensures.value ∙ ap₂ (λ x d. quotient_rounded x d) product divisor)
 

@@ -16,5 +16,7 @@ overflow_cast-result c =
 
 pub returns : goal.returns
 returns c =
-    let is : c.rounded_quotient.result ≡ rate_consumption c.args.rate c.args.speed = c.rounded_quotient.ensures ∙ ap₂ rate_consumption c.from.ensures c.from-2.ensures in
-    record { value = is; range = omega (arith, is, rate_consumption_le c.args.rate c.args.speed c.requires.rate c.requires.speed) }
+    let rate = c.args.line.now.rate in
+    let speed = c.args.speed.value in
+    let is : c.rounded_quotient.result ≡ rate_consumption rate speed = c.rounded_quotient.ensures ∙ ap₂ rate_consumption (c.from.ensures ∙ c.rate.ensures.value) (c.from-2.ensures ∙ c.get.ensures.value) in
+    record { value = is; range = omega (arith, is, c.rate.ensures, c.get.ensures, rate_consumption_le rate speed (omega (arith, c.rate.ensures)) (omega (arith, c.get.ensures))) }

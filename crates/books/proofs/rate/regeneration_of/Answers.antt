@@ -16,5 +16,6 @@ overflow_cast-result c =
 
 pub returns : goal.returns
 returns c =
-    let is : c.rounded_quotient.result ≡ rate_regeneration c.args.consumption c.args.discount = c.rounded_quotient.ensures ∙ ap₂ rate_regeneration c.from.ensures c.from-2.ensures in
-    record { value = is; range = omega (arith, is, rate_regeneration_le c.args.consumption c.args.discount c.requires.consumption c.requires.discount) }
+    let discount = c.args.line.now.discount in
+    let is : c.rounded_quotient.result ≡ rate_regeneration c.args.consumption discount = c.rounded_quotient.ensures ∙ ap₂ rate_regeneration c.from.ensures (c.from-2.ensures ∙ c.discount.ensures.value) in
+    record { value = is; range = omega (arith, is, rate_regeneration_le c.args.consumption discount c.requires (omega (arith, c.discount.ensures))) }
