@@ -14,7 +14,7 @@ use crate::cells::CheckedCells;
 use crate::columns::table_by_area;
 use crate::fault::ReconcileFault;
 use crate::in_range::InRange;
-use crate::places::ACCOUNT_COUNT;
+use crate::places::{ACCOUNT_COUNT, Area};
 use crate::pricing::price_adjustments;
 use crate::rows::CheckedRows;
 use crate::sheets::{AreaRow, check_area_sheet};
@@ -34,9 +34,8 @@ fn billed_kwh(cell: &InRange<Cell>) -> i64
 }
 
 // What was supplied to the area above or below all that was billed there.
-fn discrepancy_of(cells: &CheckedCells<'_>, row: &InRange<AreaRow>, area: usize) -> i64
-    requires { area < areas }
-    ensures { result ≡ discrepancy (sums_in cells.now) row.now area }
+fn discrepancy_of(cells: &CheckedCells<'_>, row: &InRange<AreaRow>, area: Area) -> i64
+    ensures { result ≡ discrepancy (sums_in cells.now) row.now area.index }
 {
     let kwh: [i64; ACCOUNT_COUNT] = array::from_fn(|i| billed_kwh(&cells.at(i, area)));
     // `as`, since a u64 has no From to i64. What was supplied is in its range.
@@ -57,10 +56,9 @@ fn managers_kwh(discrepancy: i64, row: &InRange<AreaRow>) -> i64
 fn area_kwh(
     cells: &CheckedCells<'_>,
     row: &InRange<AreaRow>,
-    area: usize,
+    area: Area,
 ) -> Option<[i64; ACCOUNT_COUNT]>
-    requires { area < areas }
-    ensures { result ≡ (if within (discrepancy (sums_in cells.now) row.now area) max_kwh then Some (map (λ account. volume_kwh (sums_in cells.now) row.now account area) (range_with_len 0 accounts)) else None) }
+    ensures { result ≡ (if within (discrepancy (sums_in cells.now) row.now area.index) max_kwh then Some (map (λ account. volume_kwh (sums_in cells.now) row.now account area.index) (range_with_len 0 accounts)) else None) }
 {
     let discrepancy = discrepancy_of(cells, row, area);
     if !within(discrepancy, MAX_KWH) {
@@ -76,10 +74,9 @@ fn area_kwh(
 fn area_adjustments(
     cells: &CheckedCells<'_>,
     sheet: &CheckedRows<'_, AreaRow>,
-    area: usize,
+    area: Area,
 ) -> Option<[VolumeAdjustment; ACCOUNT_COUNT]>
-    requires { area < areas }
-    ensures { result ≡ (if discrepancy_in_limit cells.now sheet.now area then Some (map (λ account. volume_adjustment (sums_in cells.now) sheet.now account area) (range_with_len 0 accounts)) else None) }
+    ensures { result ≡ (if discrepancy_in_limit cells.now sheet.now area.index then Some (map (λ account. volume_adjustment (sums_in cells.now) sheet.now account area.index) (range_with_len 0 accounts)) else None) }
 {
     let row = sheet.at(area);
     row.known();
