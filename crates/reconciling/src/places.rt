@@ -18,6 +18,7 @@ pub(crate) struct Area {
 }
 
 impl Area {
+    // For a closure, which hands on what a call in it asks, and not what a literal asks.
     pub(crate) fn at(index: usize) -> Area
         requires { index < areas }
         ensures { result.index ≡ index }

@@ -1,13 +1,14 @@
 // The volume reconciliation: what each area was supplied above or below what was billed, shared over its accounts.
 ghost use Rattle.std.specs.Prelude.{◌≡◌, ◌<◌, ◌≤◌, map, IfOk, if◌then◌else◌, Some, None, unsigned_abs};
 ghost use Rattle.std.specs.List.{range_with_len};
-ghost use Rattle.amounts.specs.Ranges.{accounts, areas, within};
+ghost use Rattle.amounts.specs.Quotients.{quotient_cut};
+ghost use Rattle.amounts.specs.Ranges.{accounts, within};
 ghost use Rattle.ledger.specs.Blocks.{block};
 ghost use Rattle.ledger.specs.Limits.{max_kwh};
 ghost use Rattle.reconciling.specs.Laws.{FairVolumes};
 ghost use Rattle.reconciling.specs.Limits.{max_billed_kwh};
 ghost use Rattle.reconciling.specs.Outcomes.{sums_in, unless_fault, discrepancy_in_limit, volume_limit_fault, volume_outcome};
-ghost use Rattle.reconciling.specs.Sheets.{row_at};
+ghost use Rattle.reconciling.specs.Sheets.{row_at, whole};
 ghost use Rattle.reconciling.specs.Volumes.{billed_kwh, discrepancy, managers_kwh, volume_kwh, volume_adjustment, volume_adjustments};
 
 use crate::cells::CheckedCells;
@@ -42,14 +43,21 @@ fn discrepancy_of(cells: &CheckedCells<'_>, row: &InRange<AreaRow>, area: Area) 
     row.get().supplied as i64 - total(&kwh)
 }
 
-// The infrastructure manager's share of a discrepancy, in whole kWh, cut towards zero.
+// Ten-thousandths as kWh, cut towards zero. Apart, so that the proof of a share says nothing of how it is cut.
+#[tactic(auto, using(crate::proofs::Machine::as_given))]
+fn whole_kwh(ten_thousandths: i64) -> i64
+    ensures { result ≡ quotient_cut ten_thousandths whole }
+{
+    cut(ten_thousandths, Divisor::TEN_THOUSANDTHS)
+}
+
+// The infrastructure manager's share of a discrepancy.
 fn managers_kwh(discrepancy: i64, row: &InRange<AreaRow>) -> i64
     requires { unsigned_abs discrepancy ≤ max_kwh }
     ensures answer { result ≡ managers_kwh discrepancy row.now }
     ensures bound { unsigned_abs result ≤ max_kwh }
 {
-    let ten_thousandths = discrepancy * i64::from(row.get().share);
-    cut(ten_thousandths, Divisor::TEN_THOUSANDTHS)
+    whole_kwh(discrepancy * i64::from(row.get().share))
 }
 
 // The adjustment of each account in the area, or none where the discrepancy is beyond its limit.
