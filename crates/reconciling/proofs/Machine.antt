@@ -1,9 +1,14 @@
 -- Sums as the machine has them, where no sum can overflow.
 use Rattle.std.proofs.Common.{◌≡◌, ℕ, zero, suc, ◌+◌, ◌*◌, ◌^◌, ◌<◌, ◌≤◌, ℤ, pos, ◌+ℤ◌, ◌-ℤ◌, nat_abs, sym, ap, ◌∙◌, ap₂, arith, w64, SFits, to_z, of_z}
 use borrow.Author.Differences.{ints}
+use Rattle.std.proofs.lemmas.Int.{to_z-of_z}
 use Rattle.amounts.specs.Sums.{int_sum_to}
 use Rattle.amounts.proofs.Sums.{int_sum_to_more}
 use Rattle.reconciling.proofs.Additions.{add_is, add_le}
+
+-- what fits is as it was given
+pub as_given : (x : ℤ) → SFits w64 x → to_z w64 (of_z w64 x) ≡ x
+as_given x f = to_z-of_z w64 x f
 
 pub back : (x : ℤ) (m : ℕ) → nat_abs x ≤ m → m < 2 ^ 63 → to_z w64 (of_z w64 x) ≡ x
 back x m small few = omega (arith, ints)

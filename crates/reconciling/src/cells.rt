@@ -8,7 +8,7 @@ ghost use Rattle.reconciling.specs.declared.fault.ReconcileFault.TheVariants as 
 
 use crate::fault::ReconcileFault;
 use crate::in_range::{InRange, Ranged};
-use crate::places::cell_index;
+use crate::places::{Area, cell_index};
 use ledger::{AccountRecord, Cell, block_is_sound};
 use std::marker::Model;
 
@@ -57,10 +57,9 @@ impl<'c> CheckedCells<'c> {
     }
 
     // The cell of the account in the area.
-    pub(crate) fn at(&self, account: usize, area: usize) -> InRange<Cell>
-        requires account { account < accounts }
-        requires area { area < areas }
-        ensures { result ≡ cell_at self.now account area }
+    pub(crate) fn at(&self, account: usize, area: Area) -> InRange<Cell>
+        requires { account < accounts }
+        ensures { result ≡ cell_at self.now account area.index }
     {
         InRange::of(self.cells[cell_index(account, area)])
     }

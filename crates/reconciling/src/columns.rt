@@ -5,20 +5,20 @@ ghost use Rattle.amounts.specs.Ranges.{accounts, areas};
 ghost use Rattle.ledger.specs.Blocks.{cell_count, cell_number};
 ghost use Rattle.reconciling.specs.Columns.{ColumnsBy};
 ghost use Rattle.reconciling.specs.Outcomes.{unless_fault, lowest_area};
+ghost use Rattle.reconciling.specs.declared.places.Area.{Area};
 ghost use Rattle.reconciling.specs.declared.fault.ReconcileFault.TheVariants as fault;
 
 use crate::fault::ReconcileFault;
-use crate::places::{ACCOUNT_COUNT, AREA_COUNT, cell_index};
+use crate::places::{ACCOUNT_COUNT, AREA_COUNT, Area, cell_index};
 use ledger::CELLS;
 
 // Writes an area's entries, one for each account. The entries are apart in the table, and of what is written through
 // `chunks_exact_mut` a proof knows nothing.
-fn write_column<T: Copy>(table: &mut [T], area: usize, column: &[T])
+fn write_column<T: Copy>(table: &mut [T], area: Area, column: &[T])
     requires table { length table.old ≡ cell_count }
-    requires area { area < areas }
     requires column { length column.now ≡ accounts }
-    ensures written { (account : ℕ) (d : T) → account < accounts → slice_index_or table.new (cell_number account area) d ≡ slice_index_or column.now account d }
-    ensures kept { (account other : ℕ) (d : T) → account < accounts → other < areas → (other ≢ area) → slice_index_or table.new (cell_number account other) d ≡ slice_index_or table.old (cell_number account other) d }
+    ensures written { (account : ℕ) (d : T) → account < accounts → slice_index_or table.new (cell_number account area.index) d ≡ slice_index_or column.now account d }
+    ensures kept { (account other : ℕ) (d : T) → account < accounts → other < areas → (other ≢ area.index) → slice_index_or table.new (cell_number account other) d ≡ slice_index_or table.old (cell_number account other) d }
     ensures count { length table.new ≡ cell_count }
 {
     for (account, entry) in column.iter().enumerate() {
@@ -27,16 +27,17 @@ fn write_column<T: Copy>(table: &mut [T], area: usize, column: &[T])
 }
 
 // The table with each area's column, or the fault of the lowest area that has none.
-pub(crate) fn table_by_area<T: Copy + Default, F: Fn(usize) -> Option<[T; ACCOUNT_COUNT]>>(
+pub(crate) fn table_by_area<T: Copy + Default, F: Fn(Area) -> Option<[T; ACCOUNT_COUNT]>>(
     column_of: F,
 ) -> Result<[T; CELLS], ReconcileFault>
-    requires { (area : ℕ) → area < areas → F.pre column_of area }
+    requires { (area : Area) → F.pre column_of area }
     ensures { (passes : ℕ → Bool) (entry : ℕ → ℕ → T) → ColumnsBy (F.post column_of) passes entry → result ≡ unless_fault (lowest_area passes (λ area. fault.AreaBeyondLimits area)) (map (λ i. entry (i / areas) (i % areas)) (range_with_len 0 cell_count)) }
 {
     let mut table = [T::default(); CELLS];
     // A loop: of `try_from_fn` a proof knows that some area failed, and the fault names the lowest.
-    for area in 0..AREA_COUNT {
-        let column = column_of(area).ok_or(ReconcileFault::AreaBeyondLimits { area })?;
+    for index in 0..AREA_COUNT {
+        let area = Area { index };
+        let column = column_of(area).ok_or(ReconcileFault::AreaBeyondLimits { area: index })?;
         write_column(&mut table, area, &column);
     }
     Ok(table)

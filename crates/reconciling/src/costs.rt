@@ -13,7 +13,7 @@ use crate::columns::table_by_area;
 use crate::cost_lines::share_over_all;
 use crate::fault::ReconcileFault;
 use crate::in_range::InRange;
-use crate::places::ACCOUNT_COUNT;
+use crate::places::{ACCOUNT_COUNT, Area};
 use crate::rows::CheckedRows;
 use crate::sheets::{CostSheet, check_cost_sheet};
 use ledger::{AccountRecord, CELLS, Cell};
@@ -29,10 +29,9 @@ pub struct CostAdjustments {
 fn area_delivery(
     cells: &CheckedCells<'_>,
     costs: &CheckedRows<'_, u64>,
-    area: usize,
+    area: Area,
 ) -> Option<[i64; ACCOUNT_COUNT]>
-    requires { area < areas }
-    ensures { result ≡ (if delivery_in_limit cells.now costs.now area then Some (map (λ account. delivery_adjustment (sums_in cells.now) (volumes_in cells.now) costs.now account area) (range_with_len 0 accounts)) else None) }
+    ensures { result ≡ (if delivery_in_limit cells.now costs.now area.index then Some (map (λ account. delivery_adjustment (sums_in cells.now) (volumes_in cells.now) costs.now account area.index) (range_with_len 0 accounts)) else None) }
 {
     let billed = Billed::for_delivery(cells, area);
     share_over_all(billed.shortfall(&costs.at(area)), billed.pence())

@@ -6,7 +6,7 @@ ghost use Rattle.reconciling.specs.Rows.{RangedRows};
 
 use crate::fault::ReconcileFault;
 use crate::in_range::{InRange, RangeTest, Ranged};
-use crate::places::AREA_COUNT;
+use crate::places::{AREA_COUNT, Area};
 use std::marker::Model;
 
 #[derive(Drop)]
@@ -49,11 +49,10 @@ impl<'s, R: Ranged> CheckedRows<'s, R> {
     }
 
     // The area's row.
-    pub(crate) fn at(&self, area: usize) -> InRange<R>
-        requires { area < areas }
-        ensures { (d : R) → result ≡ slice_index_or self.now area d }
+    pub(crate) fn at(&self, area: Area) -> InRange<R>
+        ensures { (d : R) → result ≡ slice_index_or self.now area.index d }
     {
         let rows = self.rows;
-        InRange::of(rows[area])
+        InRange::of(rows[area.index])
     }
 }

@@ -9,7 +9,7 @@ ghost use Rattle.reconciling.specs.Sharing.{that_count, over_operators};
 ghost use Rattle.reconciling.specs.Volumes.{volume_weight, operator_weights};
 
 use crate::cells::CheckedCells;
-use crate::places::ACCOUNT_COUNT;
+use crate::places::{ACCOUNT_COUNT, Area};
 use ledger::kwh_of;
 use sharing::{AccountQuantity, Kwh, share};
 use std::array;
@@ -18,11 +18,10 @@ use std::array;
 const OPERATORS: usize = ACCOUNT_COUNT - 1;
 
 // The account's line.
-fn volume_line(cells: &CheckedCells<'_>, account: usize, area: usize) -> AccountQuantity<Kwh>
-    requires account { account < accounts }
-    requires area { area < areas }
+fn volume_line(cells: &CheckedCells<'_>, account: usize, area: Area) -> AccountQuantity<Kwh>
+    requires { account < accounts }
     ensures account { result.account ≡ account }
-    ensures weight { result.quantity.0 ≡ volume_weight (sums_in cells.now account area) }
+    ensures weight { result.quantity.0 ≡ volume_weight (sums_in cells.now account area.index) }
 {
     // `as`, since the account is below 64: `try_from` would bring a failure that cannot come.
     AccountQuantity {
@@ -32,9 +31,8 @@ fn volume_line(cells: &CheckedCells<'_>, account: usize, area: usize) -> Account
 }
 
 // The line of each operator in the area.
-fn volume_lines(cells: &CheckedCells<'_>, area: usize) -> [AccountQuantity<Kwh>; OPERATORS]
-    requires { area < areas }
-    ensures weights { map (λ l. l.quantity.0) result ≡ operator_weights (sums_in cells.now) area }
+fn volume_lines(cells: &CheckedCells<'_>, area: Area) -> [AccountQuantity<Kwh>; OPERATORS]
+    ensures weights { map (λ l. l.quantity.0) result ≡ operator_weights (sums_in cells.now) area.index }
     ensures accounts { map (λ l. l.account) result ≡ range_with_len 1 (accounts - 1) }
 {
     array::from_fn(|i| volume_line(cells, i + 1, area))
@@ -45,11 +43,10 @@ pub(crate) fn share_over_operators(
     before: i64,
     amount: i64,
     cells: &CheckedCells<'_>,
-    area: usize,
+    area: Area,
 ) -> Option<[i64; ACCOUNT_COUNT]>
-    requires before { unsigned_abs before ≤ max_kwh }
-    requires area { area < areas }
-    ensures { result ≡ (if figures_in_limit amount (operator_weights (sums_in cells.now) area) then Some (map (over_operators before amount (that_count (operator_weights (sums_in cells.now) area))) (range_with_len 0 accounts)) else None) }
+    requires { unsigned_abs before ≤ max_kwh }
+    ensures { result ≡ (if figures_in_limit amount (operator_weights (sums_in cells.now) area.index) then Some (map (over_operators before amount (that_count (operator_weights (sums_in cells.now) area.index))) (range_with_len 0 accounts)) else None) }
 {
     let lines = volume_lines(cells, area);
     let mut adjustments = [0; ACCOUNT_COUNT];

@@ -1,20 +1,21 @@
 // The volume reconciliation: what each area was supplied above or below what was billed, shared over its accounts.
 ghost use Rattle.std.specs.Prelude.{◌≡◌, ◌<◌, ◌≤◌, map, IfOk, if◌then◌else◌, Some, None, unsigned_abs};
 ghost use Rattle.std.specs.List.{range_with_len};
-ghost use Rattle.amounts.specs.Ranges.{accounts, areas, within};
+ghost use Rattle.amounts.specs.Quotients.{quotient_cut};
+ghost use Rattle.amounts.specs.Ranges.{accounts, within};
 ghost use Rattle.ledger.specs.Blocks.{block};
 ghost use Rattle.ledger.specs.Limits.{max_kwh};
 ghost use Rattle.reconciling.specs.Laws.{FairVolumes};
 ghost use Rattle.reconciling.specs.Limits.{max_billed_kwh};
 ghost use Rattle.reconciling.specs.Outcomes.{sums_in, unless_fault, discrepancy_in_limit, volume_limit_fault, volume_outcome};
-ghost use Rattle.reconciling.specs.Sheets.{row_at};
+ghost use Rattle.reconciling.specs.Sheets.{row_at, whole};
 ghost use Rattle.reconciling.specs.Volumes.{billed_kwh, discrepancy, managers_kwh, volume_kwh, volume_adjustment, volume_adjustments};
 
 use crate::cells::CheckedCells;
 use crate::columns::table_by_area;
 use crate::fault::ReconcileFault;
 use crate::in_range::InRange;
-use crate::places::ACCOUNT_COUNT;
+use crate::places::{ACCOUNT_COUNT, Area};
 use crate::pricing::price_adjustments;
 use crate::rows::CheckedRows;
 use crate::sheets::{AreaRow, check_area_sheet};
@@ -34,33 +35,38 @@ fn billed_kwh(cell: &InRange<Cell>) -> i64
 }
 
 // What was supplied to the area above or below all that was billed there.
-fn discrepancy_of(cells: &CheckedCells<'_>, row: &InRange<AreaRow>, area: usize) -> i64
-    requires { area < areas }
-    ensures { result ≡ discrepancy (sums_in cells.now) row.now area }
+fn discrepancy_of(cells: &CheckedCells<'_>, row: &InRange<AreaRow>, area: Area) -> i64
+    ensures { result ≡ discrepancy (sums_in cells.now) row.now area.index }
 {
     let kwh: [i64; ACCOUNT_COUNT] = array::from_fn(|i| billed_kwh(&cells.at(i, area)));
     // `as`, since a u64 has no From to i64. What was supplied is in its range.
     row.get().supplied as i64 - total(&kwh)
 }
 
-// The infrastructure manager's share of a discrepancy, in whole kWh, cut towards zero.
+// Ten-thousandths as kWh, cut towards zero. Apart, so that the proof of a share says nothing of how it is cut.
+#[tactic(auto, using(crate::proofs::Machine::as_given))]
+fn whole_kwh(ten_thousandths: i64) -> i64
+    ensures { result ≡ quotient_cut ten_thousandths whole }
+{
+    cut(ten_thousandths, Divisor::TEN_THOUSANDTHS)
+}
+
+// The infrastructure manager's share of a discrepancy.
 fn managers_kwh(discrepancy: i64, row: &InRange<AreaRow>) -> i64
     requires { unsigned_abs discrepancy ≤ max_kwh }
     ensures answer { result ≡ managers_kwh discrepancy row.now }
     ensures bound { unsigned_abs result ≤ max_kwh }
 {
-    let ten_thousandths = discrepancy * i64::from(row.get().share);
-    cut(ten_thousandths, Divisor::TEN_THOUSANDTHS)
+    whole_kwh(discrepancy * i64::from(row.get().share))
 }
 
 // The adjustment of each account in the area, or none where the discrepancy is beyond its limit.
 fn area_kwh(
     cells: &CheckedCells<'_>,
     row: &InRange<AreaRow>,
-    area: usize,
+    area: Area,
 ) -> Option<[i64; ACCOUNT_COUNT]>
-    requires { area < areas }
-    ensures { result ≡ (if within (discrepancy (sums_in cells.now) row.now area) max_kwh then Some (map (λ account. volume_kwh (sums_in cells.now) row.now account area) (range_with_len 0 accounts)) else None) }
+    ensures { result ≡ (if within (discrepancy (sums_in cells.now) row.now area.index) max_kwh then Some (map (λ account. volume_kwh (sums_in cells.now) row.now account area.index) (range_with_len 0 accounts)) else None) }
 {
     let discrepancy = discrepancy_of(cells, row, area);
     if !within(discrepancy, MAX_KWH) {
@@ -76,10 +82,9 @@ fn area_kwh(
 fn area_adjustments(
     cells: &CheckedCells<'_>,
     sheet: &CheckedRows<'_, AreaRow>,
-    area: usize,
+    area: Area,
 ) -> Option<[VolumeAdjustment; ACCOUNT_COUNT]>
-    requires { area < areas }
-    ensures { result ≡ (if discrepancy_in_limit cells.now sheet.now area then Some (map (λ account. volume_adjustment (sums_in cells.now) sheet.now account area) (range_with_len 0 accounts)) else None) }
+    ensures { result ≡ (if discrepancy_in_limit cells.now sheet.now area.index then Some (map (λ account. volume_adjustment (sums_in cells.now) sheet.now account area.index) (range_with_len 0 accounts)) else None) }
 {
     let row = sheet.at(area);
     row.known();

@@ -5,8 +5,8 @@ use Rattle.reconciling.proofs.Checks.{AllPass}
 use Rattle.reconciling.proofs.Tables.{Columns}
 use Rattle.reconciling.proofs.columns.table_by_area.Given as goal
 
-abbrev pub invariant-loop-area : goal.invariant-loop-area
-invariant-loop-area g l = record {
+abbrev pub invariant-loop-index : goal.invariant-loop-index
+invariant-loop-index g l = record {
   count : length l.table ≡ cell_count;
-  written : (passes : ℕ → Bool) (entry : ℕ → ℕ → g.row.T.Denot) → ColumnsBy (goal.F-post g l.column_of) passes entry → AllPass passes l.area × Columns entry (entry 0 0) l.table l.area;
+  written : (passes : ℕ → Bool) (entry : ℕ → ℕ → g.row.T.Denot) → ColumnsBy (goal.F-post g l.column_of) passes entry → AllPass passes l.index × Columns entry (entry 0 0) l.table l.index;
 }

@@ -3,13 +3,13 @@ use Rattle.reconciling.proofs.Tables.{column_none, column_more}
 use Rattle.reconciling.proofs.columns.write_column.Goals as goal
 
 pub loop-account-init : goal.loop-account-init
-loop-account-init g c = column_none c.args.table.now c.args.column.now c.args.area
+loop-account-init g c = column_none c.args.table.now c.args.column.now c.args.area.index
 
 pub loop-account-preserved : goal.loop-account-preserved
 loop-account-preserved g c =
     rw c.cell_index.ensures
-    (column_more c.args.table.now c.args.column.now c.args.area c.loop-account.table c.loop-account.account c.index-column-account.result c.loop-account.invariant
-    (omega (arith, c.requires.table)) (omega (arith, c.requires.column)) c.requires.area c.loop-account-test.true c.index-column-account.is)
+    (column_more c.args.table.now c.args.column.now c.args.area.index c.loop-account.table c.loop-account.account c.index-column-account.result c.loop-account.invariant
+    (omega (arith, c.requires.table)) (omega (arith, c.requires.column)) c.args.area.exists c.loop-account-test.true c.index-column-account.is)
 
 pub returns : goal.returns
 returns g c =

@@ -11,4 +11,4 @@ returns c =
     let is = to_z-of_z w64 z (record { sfits = c.shortfall.type_inv }) ∙ c.shortfall.ensures ∙ ap (λ k. pos k -ℤ int_sum_to (λ i. get_or c.for_delivery-billed.result i (pos 0)) accounts) (c.at.ensures 0) in
     c.share_over_all.ensures
     ∙ ap (over_all_outcome (to_z w64 (of_z w64 z))) c.pence.ensures
-    ∙ delivery_shared c.args.cells.now c.args.costs.now c.args.area (to_z w64 (of_z w64 z)) c.for_delivery-billed.result c.for_delivery-billed.ensures is
+    ∙ delivery_shared c.args.cells.now c.args.costs.now c.args.area.index (to_z w64 (of_z w64 z)) c.for_delivery-billed.result c.for_delivery-billed.ensures is

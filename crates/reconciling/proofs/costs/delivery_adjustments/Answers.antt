@@ -7,4 +7,4 @@ pub returns : goal.returns
 unfolding delivery_limit_fault delivery_adjustments
 returns c =
     c.table_by_area.ensures (delivery_in_limit c.args.cells.now c.args.costs.now) (delivery_adjustment (sums_in c.args.cells.now) (volumes_in c.args.cells.now) c.args.costs.now)
-    (record { each = λ area r l said. search rules })
+    (record { each = λ area r said. search rules })

@@ -15,8 +15,8 @@ pub returns : goal.returns
 unfolding operator_weights
 returns c =
     let cells = c.args.cells.now in
-    let all = made_by _ (line cells c.args.area) _ (λ i y q called. search rules) c.from_fn.result (line cells c.args.area 0) 63 c.from_fn.ensures.items in
+    let all = made_by _ (line cells c.args.area.index) _ (λ i y q called. search rules) c.from_fn.result (line cells c.args.area.index 0) 63 c.from_fn.ensures.items in
     record {
-      weights = ap (map (λ (l : AccountQuantity Kwh). l.quantity.0)) all ∙ map_counted (λ (l : AccountQuantity Kwh). l.quantity.0) (line cells c.args.area) 63 ∙ map_counted_from (λ account. volume_weight (sums_in cells account c.args.area)) 1 63;
-      accounts = ap (map (λ (l : AccountQuantity Kwh). l.account)) all ∙ map_counted (λ (l : AccountQuantity Kwh). l.account) (line cells c.args.area) 63;
+      weights = ap (map (λ (l : AccountQuantity Kwh). l.quantity.0)) all ∙ map_counted (λ (l : AccountQuantity Kwh). l.quantity.0) (line cells c.args.area.index) 63 ∙ map_counted_from (λ account. volume_weight (sums_in cells account c.args.area.index)) 1 63;
+      accounts = ap (map (λ (l : AccountQuantity Kwh). l.account)) all ∙ map_counted (λ (l : AccountQuantity Kwh). l.account) (line cells c.args.area.index) 63;
     }

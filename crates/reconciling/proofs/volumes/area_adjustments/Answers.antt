@@ -15,20 +15,20 @@ use Rattle.reconciling.proofs.volumes.area_adjustments.Goals as goal
 use Rattle.reconciling.proofs.volumes.area_adjustments.Goals.{In_ok-kwh}
 
 -- the kWh of the area are found
-found : (c : In_ok-kwh) → (within (discrepancy (sums_in c.args.cells.now) c.at-row.result c.args.area) max_kwh ≡ true) × (c.in_ok-kwh.kwh ≡ map (λ account. volume_kwh (sums_in c.args.cells.now) c.at-row.result account c.args.area) (range_with_len 0 accounts))
+found : (c : In_ok-kwh) → (within (discrepancy (sums_in c.args.cells.now) c.at-row.result c.args.area.index) max_kwh ≡ true) × (c.in_ok-kwh.kwh ≡ map (λ account. volume_kwh (sums_in c.args.cells.now) c.at-row.result account c.args.area.index) (range_with_len 0 accounts))
 found c = some_if _ c.in_ok-kwh.kwh _ (sym c.in_ok-kwh.was ∙ c.area_kwh.ensures)
 
 pub returns-in_err-kwh : goal.returns-in_err-kwh
 unfolding discrepancy_in_limit
 returns-in_err-kwh c =
-    let bad = none_if (within (discrepancy (sums_in c.args.cells.now) c.at-row.result c.args.area) max_kwh) _ (sym c.in_err-kwh.was ∙ c.area_kwh.ensures) in
-    c.from_residual.ensures ∙ sym (cond-false (discrepancy_in_limit c.args.cells.now c.args.sheet.now c.args.area) _ None (ap (λ (r : AreaRow). within (discrepancy (sums_in c.args.cells.now) r c.args.area) max_kwh) (sym (c.at-row.ensures zero_row)) ∙ bad))
+    let bad = none_if (within (discrepancy (sums_in c.args.cells.now) c.at-row.result c.args.area.index) max_kwh) _ (sym c.in_err-kwh.was ∙ c.area_kwh.ensures) in
+    c.from_residual.ensures ∙ sym (cond-false (discrepancy_in_limit c.args.cells.now c.args.sheet.now c.args.area.index) _ None (ap (λ (r : AreaRow). within (discrepancy (sums_in c.args.cells.now) r c.args.area.index) max_kwh) (sym (c.at-row.ensures zero_row)) ∙ bad))
 
 pub price_adjustments-requires : goal.price_adjustments-requires
 price_adjustments-requires c account l =
     let d = (goal.at.price_adjustments-requires c).In_ok-kwh in
-    let is = ap (λ k. get_or k account (pos 0)) (found d).1 ∙ get_or-map-range_with_len (λ a. volume_kwh (sums_in c.args.cells.now) c.at-row.result a c.args.area) 0 accounts account account (pos 0) l (omega arith) in
-    omega (arith, ap nat_abs is, volume_kwh_le c.args.cells.now c.at-row.result c.args.area c.known.ensures (leb-true _ _ (found d).0) account l)
+    let is = ap (λ k. get_or k account (pos 0)) (found d).1 ∙ get_or-map-range_with_len (λ a. volume_kwh (sums_in c.args.cells.now) c.at-row.result a c.args.area.index) 0 accounts account account (pos 0) l (omega arith) in
+    omega (arith, ap nat_abs is, volume_kwh_le c.args.cells.now c.at-row.result c.args.area.index c.known.ensures (leb-true _ _ (found d).0) account l)
 
 pub returns : goal.returns
 unfolding discrepancy_in_limit volume_adjustment
@@ -36,8 +36,8 @@ returns c =
     let d = (goal.at.returns c).In_ok-kwh in
     let cells = c.args.cells.now in
     let row = c.at-row.result in
-    let at : row ≡ row_at c.args.sheet.now c.args.area = c.at-row.ensures zero_row in
-    let good = ap (λ (r : AreaRow). within (discrepancy (sums_in cells) r c.args.area) max_kwh) (sym at) ∙ (found d).0 in
-    let priced = c.price_adjustments.ensures ∙ ap (map (λ k. priced_adjustment k row)) (found d).1 ∙ map_counted (λ k. priced_adjustment k row) (λ account. volume_kwh (sums_in cells) row account c.args.area) accounts in
-    ap Some (priced ∙ ap (λ (r : AreaRow). map (λ account. priced_adjustment (volume_kwh (sums_in cells) r account c.args.area) r) (range_with_len 0 accounts)) at)
-    ∙ sym (cond-true (discrepancy_in_limit cells c.args.sheet.now c.args.area) _ None good)
+    let at : row ≡ row_at c.args.sheet.now c.args.area.index = c.at-row.ensures zero_row in
+    let good = ap (λ (r : AreaRow). within (discrepancy (sums_in cells) r c.args.area.index) max_kwh) (sym at) ∙ (found d).0 in
+    let priced = c.price_adjustments.ensures ∙ ap (map (λ k. priced_adjustment k row)) (found d).1 ∙ map_counted (λ k. priced_adjustment k row) (λ account. volume_kwh (sums_in cells) row account c.args.area.index) accounts in
+    ap Some (priced ∙ ap (λ (r : AreaRow). map (λ account. priced_adjustment (volume_kwh (sums_in cells) r account c.args.area.index) r) (range_with_len 0 accounts)) at)
+    ∙ sym (cond-true (discrepancy_in_limit cells c.args.sheet.now c.args.area.index) _ None good)

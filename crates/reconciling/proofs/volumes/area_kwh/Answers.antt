@@ -18,9 +18,9 @@ unfolding volume_kwh adjusted_kwh
 returns c =
     let cells = c.args.cells.now in
     let row = c.args.row.now in
-    let d = discrepancy (sums_in cells) row c.args.area in
+    let d = discrepancy (sums_in cells) row c.args.area.index in
     let m = managers_kwh d row in
-    let ws = operator_weights (sums_in cells) c.args.area in
+    let ws = operator_weights (sums_in cells) c.args.area.index in
     let is_d = to_z-of_z w64 c.discrepancy_of-discrepancy.result (record { sfits = c.discrepancy_of-discrepancy.type_inv }) ∙ c.discrepancy_of-discrepancy.ensures in
     let is_m = to_z-of_z w64 c.managers_kwh-managers.result (record { sfits = c.managers_kwh-managers.type_inv }) ∙ c.managers_kwh-managers.ensures.answer ∙ ap (λ x. managers_kwh x row) is_d in
     let good = ap (λ x. within x max_kwh) (sym is_d) ∙ sym c.if-not-within.ensures in
@@ -29,5 +29,5 @@ returns c =
     let is_rest = ap₂ (λ x y. to_z w64 (of_z w64 (x -ℤ y))) is_d is_m ∙ to_z-of_z w64 (d -ℤ m) (fits_within (d -ℤ m) max_kwh (omega (arith, left, small)) (lit< tt)) in
     c.share_over_operators.ensures
     ∙ ap₂ (λ (a b : ℤ). cond (figures_in_limit b ws) (Some (map (over_operators a b (that_count ws)) (range_with_len 0 accounts))) None) is_m is_rest
-    ∙ cond-true (figures_in_limit (d -ℤ m) ws) _ None (figures_fit cells row c.args.area c.known-2.ensures c.known.ensures small)
-    ∙ sym (cond-true (within d max_kwh) (Some (map (λ account. volume_kwh (sums_in cells) row account c.args.area) (range_with_len 0 accounts))) None good)
+    ∙ cond-true (figures_in_limit (d -ℤ m) ws) _ None (figures_fit cells row c.args.area.index c.known-2.ensures c.known.ensures small)
+    ∙ sym (cond-true (within d max_kwh) (Some (map (λ account. volume_kwh (sums_in cells) row account c.args.area.index) (range_with_len 0 accounts))) None good)

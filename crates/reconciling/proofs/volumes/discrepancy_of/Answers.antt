@@ -46,7 +46,7 @@ pub returns : goal.returns
 unfolding discrepancy
 returns c =
     let d = (goal.at.returns c).After-get in
-    let f : ℕ → ℤ = λ account. billed_kwh (sums_in c.args.cells.now account c.args.area) in
+    let f : ℕ → ℤ = λ account. billed_kwh (sums_in c.args.cells.now account c.args.area.index) in
     let each = made_each _ (λ i y. y ≡ f i) _ (λ i y q called. search rules) c.from_fn-kwh.result (pos 0) 64 c.from_fn-kwh.ensures.items in
     less_is c.get.result.supplied _ _ (total_is c ∙ int_sum_to_ext (λ i. get_or c.from_fn-kwh.result i (pos 0)) f accounts each) (accounts * max_billed_kwh) (total_le c) (omega (arith, supplied_le d))
     ∙ ap (λ (r : AreaRow). pos r.supplied -ℤ int_sum_to f accounts) c.get.ensures.value

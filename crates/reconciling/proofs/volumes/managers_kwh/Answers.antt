@@ -18,9 +18,9 @@ share_le c = (row_ranged c.get.result c.get.ensures.in_range).share
 share_is : (c : After-from) → of_z w64 c.from.result ≡ c.get.result.share
 share_is c = ap (of_z w64) c.from.ensures
 
-pub overflow_mul-ten_thousandths : goal.overflow_mul-ten_thousandths
-overflow_mul-ten_thousandths c =
-    let d = (goal.at.overflow_mul-ten_thousandths c).After-from in
+pub overflow_mul-discrepancy : goal.overflow_mul-discrepancy
+overflow_mul-discrepancy c =
+    let d = (goal.at.overflow_mul-discrepancy c).After-from in
     let p = share_is d in
     rw p (machine_fits c.args.discrepancy c.get.result.share max_kwh whole c.ranges.discrepancy c.requires (share_le d) (lit< tt) (lit< tt))
 
@@ -33,7 +33,7 @@ returns c =
     let small = share_le from in
     let product = ap (λ x. to_z w64 (of_z w64 (to_z w64 (of_z w64 d) *ℤ to_z w64 x))) (share_is from) ∙ ap (λ x. to_z w64 (of_z w64 x)) (machine_product d s c.ranges.discrepancy (omega (arith, small)))
     ∙ to_z-of_z w64 (d *ℤ pos s) (product_fits d s max_kwh whole c.requires small (lit< tt)) in
-    let value = to_z-of_z w64 c.cut.result (record { sfits = c.cut.type_inv }) ∙ c.cut.ensures.value ∙ ap (λ x. quotient_cut x whole) product in
+    let value = to_z-of_z w64 c.whole_kwh.result (record { sfits = c.whole_kwh.type_inv }) ∙ c.whole_kwh.ensures ∙ ap (λ x. quotient_cut x whole) product in
     record {
       answer = value ∙ ap (λ (r : AreaRow). managers_kwh d r) c.get.ensures.value;
       bound = omega (arith, ap nat_abs value, managers_le d c.get.result c.get.ensures.in_range, c.requires);

@@ -7,4 +7,4 @@ pub returns : goal.returns
 unfolding volume_limit_fault volume_adjustments
 returns c =
     c.table_by_area.ensures (discrepancy_in_limit c.args.cells.now c.args.sheet.now) (volume_adjustment (sums_in c.args.cells.now) c.args.sheet.now)
-    (record { each = λ area r l said. search rules })
+    (record { each = λ area r said. search rules })
