@@ -5,6 +5,7 @@ ghost use Rattle.amounts.specs.Printed.{layer_text, refusal_text};
 use crate::refusal::{Layer, Refusal};
 use std::fmt;
 
+// Spelled out, since a derived Debug states no text.
 impl fmt::Display for Layer {
     ghost output = { λ layer. Some (layer_text layer) };
 

@@ -26,6 +26,7 @@ pub fn cut(amount: i64, divisor: Divisor) -> i64
     ensures only { (s : ℤ) → Cut amount divisor.value s → s ≡ result }
     ensures value { result ≡ quotient_cut amount divisor.value }
 {
+    // `as` loses nothing: a divisor is at most 10^12.
     truncated(amount, divisor.get() as i64)
 }
 

@@ -2,6 +2,7 @@ use Rattle.std.proofs.Common.{◌≡◌, ◌≤◌, map, length, get_or, take, d
 use Rattle.std.proofs.lemmas.List.{length-map}
 use Rattle.std.proofs.lemmas.Int.{to_z-of_z}
 use Rattle.std.proofs.lemmas.Bool.{true≢false}
+use Rattle.amounts.proofs.Signed.{read_back}
 use Rattle.sharing.specs.Limits.{figures_in_limit, max_weight}
 use Rattle.sharing.specs.Shares.{counting_weight, part, unshared, written}
 use Rattle.sharing.specs.Laws.{FairShare}
@@ -66,7 +67,7 @@ returns g c =
     let p = ends_shared z (map f ls) cs ps
     (ap (λ y. figures_in_limit y (map f ls)) (sym zed) ∙ sym c.figures_in_limit.ensures ∙ c.if-not-figures_in_limit.false) up (omega (arith, length-map ls f, c.if-parts-count.false)) in
     let shared : c.spread.new.parts ≡ written (part z ws) (length ws) ps = c.spread.ensures.after ∙ ap₂ (λ y xs. written (part y xs) (length xs) ps) zed same in
-    let kept : to_z w64 (of_z w64 c.spread.result) ≡ unshared z ws = to_z-of_z w64 c.spread.result (record { sfits = c.spread.type_inv }) ∙ c.spread.ensures.answer ∙ ap₂ unshared zed same in
+    let kept : to_z w64 (of_z w64 c.spread.result) ≡ unshared z ws = read_back c.spread.result c.spread.type_inv ∙ c.spread.ensures.answer ∙ ap₂ unshared zed same in
     let long : length ws ≡ length ls = length-map (map f ls) counting_weight ∙ length-map ls f in
     record {
       answer = ap Ok kept ∙ p.0;

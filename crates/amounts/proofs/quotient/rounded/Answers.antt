@@ -3,6 +3,7 @@ use Rattle.std.specs.Int.{int_signum}
 use Rattle.std.proofs.lemmas.Int.{to_z-of_z}
 use Rattle.std.proofs.lemmas.Bool.{leb-true, leb-false}
 use Rattle.amounts.specs.Quotients.{Rounded, with_sign, quotient_cut, quotient_rounded}
+use Rattle.amounts.proofs.Signed.{read_back}
 use Rattle.amounts.proofs.Quotients.{rounds_down, rounds_up, away, up_fits, not_zero, rounded_law, rounded_only, rounded_monotone}
 use Rattle.amounts.proofs.quotient.rounded.Goals as goal
 
@@ -31,7 +32,7 @@ returns-else-reaches_half c =
     let rest : c.unsigned_abs.result % c.get.result ≡ nat_abs z % d = ap₂ (λ x y. x % y) (c.unsigned_abs.ensures.value ∙ ap nat_abs zed) c.get.ensures in
     let low = leb-false _ _ (sym c.reaches_half.ensures ∙ c.if-reaches_half.false) in
     owed z d _ c.args.divisor.positive
-    (to_z-of_z w64 c.cut-quotient.result (record { sfits = c.cut-quotient.type_inv }) ∙ c.cut-quotient.ensures.value ∙ ap (λ x. quotient_cut x d) zed
+    (read_back c.cut-quotient.result c.cut-quotient.type_inv ∙ c.cut-quotient.ensures.value ∙ ap (λ x. quotient_cut x d) zed
     ∙ sym (rounds_down z d (omega (arith, rest, low, c.get-2.ensures))))
 
 -- where the sum is taken, twice the remainder reaches the divisor

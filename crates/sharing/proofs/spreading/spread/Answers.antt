@@ -1,6 +1,7 @@
 use Rattle.std.proofs.Common.{◌≡◌, ◌<◌, length, replicate, set, pos, nat_abs, sym, ap, ◌∙◌, ap₂, arith, rules, w64, to_z, of_z, get_or, take, drop, ◌++◌}
 use Rattle.std.proofs.lemmas.Int.{to_z-of_z}
 use Rattle.amounts.specs.Quotients.{with_sign}
+use Rattle.amounts.proofs.Signed.{read_back}
 use Rattle.sharing.specs.declared.claims.Claim.{Claim}
 use Rattle.sharing.specs.Shares.{size, part, written}
 use Rattle.sharing.proofs.Fairness.{unshared_all, unshared_none}
@@ -67,7 +68,7 @@ loop-claim-preserved c =
     let i = c.loop-claim.claim-index in
     let fit = units_are a ws c.claims-claims.result c.claims-claims.ensures c.requires.limits.0 i c.leftover-leftover.result none c.loop-claim-test.true c.leftover-leftover.ensures in
     let value : c.part_of.result ≡ part z ws i = c.part_of.ensures ∙ ap (with_sign z) (fit ∙ ap (λ y. size y ws i) c.unsigned_abs.ensures.value) in
-    let wrote : to_z w64 (of_z w64 c.part_of.result) ≡ part z ws i = to_z-of_z w64 c.part_of.result (record { sfits = c.part_of.type_inv }) ∙ value in
+    let wrote : to_z w64 (of_z w64 c.part_of.result) ≡ part z ws i = read_back c.part_of.result c.part_of.type_inv ∙ value in
     ap₂ (λ ps v. set ps (get_or (take (length ws) c.claims-claims.result) i none).index v) c.loop-claim.invariant wrote
     ∙ ap (λ k. set (written (part z ws) i c.args.parts.now) k (part z ws i)) (own_index c)
     ∙ written_more (part z ws) i c.args.parts.now (own_place c)
