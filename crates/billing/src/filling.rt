@@ -21,7 +21,7 @@ pub(crate) struct Fill {
     pub(crate) regeneration: u64,
 }
 
-// The kind by which an infill book is asked.
+// The kind by which an infill book is asked. No From: both types are of crates below.
 pub(crate) fn kind_of(leg: MeteredLeg) -> MeteredKind
     ensures { result ≡ kind_of leg }
 {

@@ -4,6 +4,7 @@ ghost use Rattle.std.specs.Prelude.{◌≡◌};
 use lines::{CategoryLine, LossLine, OrderedList};
 
 // `T` is the kind of tariff book, and `I` that of infill book.
+#[derive_where(Clone, Copy)]
 pub struct Tables<'t, 'm, T, I> {
     pub categories: &'t OrderedList<'m, CategoryLine>,
     pub losses: &'t OrderedList<'m, LossLine>,
@@ -30,17 +31,5 @@ impl<'t, 'm, T, I> Tables<'t, 'm, T, I> {
             tariff,
             infill,
         }
-    }
-}
-
-// The references are let go, whatever kinds of book they are to.
-impl<T, I> Drop for Tables<'_, '_, T, I> {
-    fn drop(self) {
-        let Tables {
-            categories: _,
-            losses: _,
-            tariff: _,
-            infill: _,
-        } = self;
     }
 }

@@ -8,6 +8,7 @@ ghost use Rattle.books.specs.Answers.{PricesInRange, ValuesInRange};
 use crate::answers::{Prices, SlotValues};
 use lines::MeteredKind;
 
+// What is asked stays apart: the meaning of a book is a function of it.
 pub trait TariffBook {
     // What the book means: the prices of an account, in an area and a band.
     ghost prices: { Self → ℕ → ℕ → ℕ → Option Prices };

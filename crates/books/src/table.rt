@@ -19,7 +19,7 @@ pub type TableTariff<'t, 'm> = TableBook<'t, 'm, TariffLine>;
 // Values for a slot by kind of record, category, area and band.
 pub type TableInfill<'t, 'm> = TableBook<'t, 'm, InfillLine>;
 
-// Each `new` promises the law of its own lines.
+// Each `new` promises the law of its own lines. What a line gives is spelled out in each answer: at one use a From would be no shorter.
 impl<'t, 'm> TableTariff<'t, 'm> {
     pub fn new(table: &'t OrderedList<'m, TariffLine>) -> Self
         ensures table { result.table.now ≡ table.now }
