@@ -7,7 +7,7 @@ ghost use Rattle.year.specs.Outcomes.{with_volumes, with_costs, account_with_cos
 use amounts::ACCOUNTS;
 use ledger::{AccountRecord, CELLS, Cell, VolumeAdjustment};
 
-// The counts are a `requires`: `as_mut_array` would bring a None that cannot come, since the caller has tested the block.
+// The counts are a `requires`: `as_mut_array` would bring a None that cannot come, since the block was tested before.
 // The table is read by an index: after a `zip` with `iter_mut`, a proof knows the length of the cells and no cell.
 pub(crate) fn set_volumes(cells: &mut [Cell], table: &[VolumeAdjustment; CELLS])
     requires { length cells.old ≡ cell_count }
