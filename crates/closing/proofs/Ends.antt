@@ -24,11 +24,6 @@ mapped h (Ok x) s P made is = is
 mapped h (Err e) (Ok y) P made is = absurd is
 mapped h (Err e) (Err d) P made is = ap Err (made e d is)
 
-pub was_ok : {A E D : Type 0} (r : Result A E) (s : Result A D) (P : E → D → Type 0) (z : A) → MatchResult r (λ x. s ≡ Ok x) (λ e. IsErrAnd s (P e)) → s ≡ Ok z → r ≡ Ok z
-was_ok (Ok x) s P z is e = cc
-was_ok (Err f) (Ok y) P z is e = absurd is
-was_ok (Err f) (Err d) P z is e = accepted_refused z d (sym e)
-
 abbrev pub volume_of : OpenYear × ReconcileFault → CloseFault
 volume_of s = Volume s.1
 

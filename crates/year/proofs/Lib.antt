@@ -11,6 +11,7 @@ pub mod Order
 pub mod Settled
 pub mod PostEnds
 pub mod Forward
+pub mod Handed
 pub mod Tables
 pub mod Adding
 pub mod StatementEnds

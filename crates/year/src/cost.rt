@@ -26,16 +26,10 @@ impl VolumeSettledYear {
         ensures run { CostExtends self (block cells.old accounts.old) costs.now.delivery.now costs.now.energy result (block cells.new accounts.new) }
         ensures year_settles { YearSettles self (block cells.old accounts.old) costs.now.delivery.now costs.now.energy result (block cells.new accounts.new) }
     {
-        // Both arms hand a year on, and a closure of `map_err` would take it from the other.
-        match cost_adjustments(cells, accounts, costs) {
-            Ok(table) => {
-                set_costs(cells, &table.delivery);
-                set_accounts(accounts, &table.energy);
-                Ok(SettledYear {
-                    accepted: self.accepted,
-                })
-            }
-            Err(fault) => Err((self, fault)),
-        }
+        let accepted = self.accepted;
+        let table = cost_adjustments(cells, accounts, costs).map_err(|fault| (self, fault))?;
+        set_costs(cells, &table.delivery);
+        set_accounts(accounts, &table.energy);
+        Ok(SettledYear { accepted })
     }
 }

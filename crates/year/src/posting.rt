@@ -47,13 +47,8 @@ impl OpenYear {
         ensures run { PostExtends (sources_of T.prices I.values tables.now) self (block cells.old accounts.now) batch.now place result (block cells.new accounts.now) }
         ensures forward { PostGoesForward (length batch.now) place result }
     {
-        // Both arms hand the year on, and a closure of `map_err` would take it from the other.
-        match post_bill(cells, accounts, tables, batch, place) {
-            Ok(next) => {
-                let accepted = self.accepted.saturating_add(1);
-                Ok((OpenYear { accepted }, next))
-            }
-            Err(fault) => Err((self, fault)),
-        }
+        let accepted = self.accepted.saturating_add(1);
+        let next = post_bill(cells, accounts, tables, batch, place).map_err(|fault| (self, fault))?;
+        Ok((OpenYear { accepted }, next))
     }
 }

@@ -24,15 +24,9 @@ impl OpenYear {
         ensures fair { OnOk result (FairVolumes (sums_in cells.old) sheet.now cells.new) }
         ensures run { VolumeExtends self (block cells.old accounts.now) sheet.now result (block cells.new accounts.now) }
     {
-        // Both arms hand a year on, and a closure of `map_err` would take it from the other.
-        match volume_adjustments(cells, accounts, sheet) {
-            Ok(table) => {
-                set_volumes(cells, &table);
-                Ok(VolumeSettledYear {
-                    accepted: self.accepted,
-                })
-            }
-            Err(fault) => Err((self, fault)),
-        }
+        let accepted = self.accepted;
+        let table = volume_adjustments(cells, accounts, sheet).map_err(|fault| (self, fault))?;
+        set_volumes(cells, &table);
+        Ok(VolumeSettledYear { accepted })
     }
 }

@@ -2,11 +2,12 @@
 ghost use Rattle.std.specs.Prelude.{◌≡◌, length};
 ghost use Rattle.amounts.specs.Ranges.{accounts as account_count};
 ghost use Rattle.ledger.specs.Blocks.{cell_count};
-ghost use Rattle.year.specs.Outcomes.{with_volumes, with_costs, accounts_with_costs};
+ghost use Rattle.year.specs.Outcomes.{with_volumes, with_costs, account_with_cost, accounts_with_costs};
 
 use amounts::ACCOUNTS;
 use ledger::{AccountRecord, CELLS, Cell, VolumeAdjustment};
 
+// The counts are a `requires`: `as_mut_array` would bring a None that cannot come, since the block was tested before.
 // The table is read by an index: after a `zip` with `iter_mut`, a proof knows the length of the cells and no cell.
 pub(crate) fn set_volumes(cells: &mut [Cell], table: &[VolumeAdjustment; CELLS])
     requires { length cells.old ≡ cell_count }
@@ -27,11 +28,16 @@ pub(crate) fn set_costs(cells: &mut [Cell], table: &[i64; CELLS])
     }
 }
 
+// The record of an account, of which the adjustment is all.
+fn account_with_cost(cost: i64) -> AccountRecord
+    ensures { result ≡ account_with_cost cost }
+{
+    AccountRecord { cost }
+}
+
 pub(crate) fn set_accounts(accounts: &mut [AccountRecord], table: &[i64; ACCOUNTS as usize])
     requires { length accounts.old ≡ account_count }
     ensures { accounts.new ≡ accounts_with_costs table.now }
 {
-    for (i, account) in accounts.iter_mut().enumerate() {
-        account.cost = table[i];
-    }
+    accounts.copy_from_slice(&table.map(account_with_cost));
 }
