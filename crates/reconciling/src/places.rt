@@ -10,7 +10,8 @@ pub(crate) const ACCOUNT_COUNT: usize = ACCOUNTS as usize;
 
 pub(crate) const AREA_COUNT: usize = AREAS as usize;
 
-// An area by its number, made where the areas are gone through.
+// An area by its number, made where the areas are gone through. An account stays an index, since `from_fn` hands its
+// closure a plain number.
 #[derive(Clone, Copy)]
 pub(crate) struct Area {
     pub(crate) index: usize,
