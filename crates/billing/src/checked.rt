@@ -54,10 +54,14 @@ impl<'a> CheckedMetered<'a> {
     fn needs_value(&self, slot: u8) -> bool
         ensures { result ≡ needs_value self.now slot }
     {
-        let metered = self.metered;
-        !metered.consumption.is_some_and(|block| block.has_reading(slot))
-            || asks_regeneration(metered.leg)
-                && !metered.regeneration.is_some_and(|block| block.has_reading(slot))
+        let Metered {
+            leg,
+            consumption,
+            regeneration,
+            ..
+        } = self.metered;
+        !consumption.is_some_and(|block| block.has_reading(slot))
+            || asks_regeneration(leg) && !regeneration.is_some_and(|block| block.has_reading(slot))
     }
 
     // The lowest slot that needs a value.
