@@ -1,7 +1,9 @@
 -- Sums and counts over the indices below n. Assumes nothing.
-use Rattle.std.proofs.Common.{◌≡◌, ℕ, zero, suc, ◌+◌, ◌*◌, ◌<◌, ◌≤◌, Bool, ℤ, pos, ◌+ℤ◌, refl, ap, ◌∙◌, ap₂, inl, inr, add-one, arith}
+use Rattle.std.proofs.Common.{◌≡◌, ℕ, zero, suc, ◌+◌, ◌*◌, ◌<◌, ◌≤◌, Bool, ℤ, pos, map, sum, sym, ◌+ℤ◌, refl, ap, ◌∙◌, ap₂, inl, inr, add-one, arith}
 use borrow.Author.Differences.{ints}
+use Rattle.std.specs.List.{range_with_len}
 use Rattle.std.proofs.lemmas.Bool.{cases_eq}
+use Rattle.std.proofs.lemmas.List.FromFn.{sum_by-map-range_with_len_more}
 use Rattle.amounts.specs.Sums.{sum_to, int_sum_to, count_to}
 
 pub sum_to_more : (f : ℕ → ℕ) (n : ℕ) → sum_to f (n + 1) ≡ sum_to f n + f n
@@ -67,3 +69,11 @@ int_sum_to_add_all f g m n =
 pub int_sum_to_front : (f : ℕ → ℤ) (n : ℕ) → int_sum_to f (suc n) ≡ f 0 +ℤ int_sum_to (λ i. f (suc i)) n
 int_sum_to_front f zero = omega (arith, ints)
 int_sum_to_front f (suc n) = omega (arith, ints, int_sum_to_front f n)
+
+-- a list made number by number adds up number by number
+pub sum_of_range : (f : ℕ → ℕ) (n : ℕ) → sum (map f (range_with_len 0 n)) ≡ sum_to f n
+sum_of_range f zero = refl
+sum_of_range f (suc n) =
+    ap (λ (k : ℕ). sum (map f (range_with_len 0 k))) (sym (add-one n))
+    ∙ sum_by-map-range_with_len_more (λ x. x) f 0 n n (omega arith)
+    ∙ ap (λ (s : ℕ). s + f n) (sum_of_range f n)

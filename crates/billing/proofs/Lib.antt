@@ -4,4 +4,3 @@ pub mod Relations
 pub mod Forward
 pub mod Elsewhere
 pub mod Lawful
-pub mod Searches

@@ -9,7 +9,6 @@ pub mod Areas
 pub mod Machine
 pub mod Pence
 pub mod Fair
-pub mod FromFn
 pub mod OverAll
 pub mod Discrepancies
 pub mod FairTables

@@ -9,7 +9,7 @@ use crate::rows::CheckedRows;
 use amounts::price_in_range;
 
 // What was supplied to an area, and how its volume is reconciled.
-#[derive(Clone, Copy)]
+#[derive(Clone, Copy, Default)]
 pub struct AreaRow {
     // In kWh.
     pub supplied: u64,
@@ -32,7 +32,7 @@ pub struct CostSheet<'s> {
 // The most that is supplied to an area, in kWh.
 const MAX_SUPPLIED: u64 = 3_000_000_000;
 
-// A whole, in ten-thousandths.
+// A whole, in ten-thousandths, of the type of a share.
 const WHOLE: u16 = 10_000;
 
 // The highest cost, in pence.

@@ -1,4 +1,4 @@
-// Records that are accepted, and what they say.
+// Records that are accepted, and what they say. A `let else` takes a record out of three layers at once.
 use crate::samples::{HAULED, MULTIPLE_UNIT, TRAIN_MILES};
 use records::{Billing, MeteredLeg, Modelled, ModelledQuantity, Record, read_record};
 use std::test::Fail;

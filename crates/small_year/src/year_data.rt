@@ -42,13 +42,7 @@ pub(crate) fn fill_prices(list: &mut OrderedList<TariffLine>) -> Result<(), List
 
 // Area 0 was supplied 350,003 kWh, of which 340,001 are billed: the infrastructure manager has a tenth of the rest.
 pub(crate) fn area_sheet() -> [AreaRow; 20] {
-    let none = AreaRow {
-        supplied: 0,
-        share: 0,
-        energy: 0,
-        delivery: 0,
-    };
-    let mut sheet = [none; 20];
+    let mut sheet = [AreaRow::default(); 20];
     sheet[0] = AreaRow {
         supplied: 350_003,
         share: 1_000,

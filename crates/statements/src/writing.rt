@@ -1,4 +1,5 @@
 // Writing a statement into a lent buffer. A tail is what is left of the buffer from some place on.
+// Tails are passed on, since the buffer is lent: each function says how long its tail is.
 ghost use Rattle.std.specs.Prelude.{◌≡◌, ◌≤◌, false, ◌∷◌, ◌++◌, map, length, drop, is_ok, Ok, OnOk};
 ghost use Rattle.std.specs.List.{flat_map, AllByRecursion};
 ghost use Rattle.statements.specs.Amounts.{amount_bytes};

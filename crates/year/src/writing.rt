@@ -35,6 +35,7 @@ fn account_with_cost(cost: i64) -> AccountRecord
     AccountRecord { cost }
 }
 
+// `as` in the array's length, where a type calls no function.
 pub(crate) fn set_accounts(accounts: &mut [AccountRecord], table: &[i64; ACCOUNTS as usize])
     requires { length accounts.old ≡ account_count }
     ensures { accounts.new ≡ accounts_with_costs table.now }

@@ -5,7 +5,7 @@ use Rattle.amounts.specs.Ranges.{accounts}
 use Rattle.sharing.specs.declared.line.AccountQuantity.{AccountQuantity}
 use Rattle.sharing.specs.declared.quantity.Pence.{Pence}
 use Rattle.reconciling.proofs.Mapped.{map_counted, map_by_index}
-use Rattle.reconciling.proofs.FromFn.{made_by}
+use Rattle.amounts.proofs.Made.{made_by}
 use Rattle.reconciling.proofs.cost_lines.cost_lines.Goals as goal
 
 abbrev line : List ℤ → ℕ → AccountQuantity Pence

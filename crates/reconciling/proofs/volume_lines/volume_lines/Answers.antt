@@ -5,7 +5,7 @@ use Rattle.sharing.specs.declared.quantity.Kwh.{Kwh}
 use Rattle.reconciling.specs.Outcomes.{sums_in}
 use Rattle.reconciling.specs.Volumes.{volume_weight, operator_weights}
 use Rattle.reconciling.proofs.Mapped.{map_counted, map_counted_from}
-use Rattle.reconciling.proofs.FromFn.{made_by}
+use Rattle.amounts.proofs.Made.{made_by}
 use Rattle.reconciling.proofs.volume_lines.volume_lines.Goals as goal
 
 abbrev line : List Cell → ℕ → ℕ → AccountQuantity Kwh

@@ -8,7 +8,7 @@ use Rattle.reconciling.specs.Limits.{max_billed_kwh}
 use Rattle.reconciling.specs.Outcomes.{sums_in}
 use Rattle.reconciling.specs.Sheets.{max_supplied}
 use Rattle.reconciling.specs.Volumes.{billed_kwh, discrepancy}
-use Rattle.reconciling.proofs.FromFn.{made_each, made_all}
+use Rattle.amounts.proofs.Made.{made_each, made_all}
 use Rattle.reconciling.proofs.Machine.{sum_within, less_fits, less_is}
 use Rattle.reconciling.proofs.Ranged.{row_ranged}
 use Rattle.reconciling.proofs.volumes.discrepancy_of.Goals as goal

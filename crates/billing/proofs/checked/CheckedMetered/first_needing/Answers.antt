@@ -2,7 +2,7 @@ use Rattle.std.proofs.Common.{◌≡◌, true, false, ap, ◌∙◌, rules}
 use Rattle.std.proofs.lemmas.Iterator.{first_from_Range}
 use Rattle.amounts.specs.Lowest.{lowest}
 use Rattle.billing.specs.Filling.{needs_value}
-use Rattle.billing.proofs.Searches.{found_lowest}
+use Rattle.amounts.proofs.Lowest.{found_lowest}
 use Rattle.billing.proofs.checked.CheckedMetered.first_needing.Goals as goal
 
 pub returns : goal.returns
