@@ -3,7 +3,7 @@ ghost use Rattle.std.specs.Prelude.{◌≡◌};
 
 use sharing::AccountQuantity;
 
-pub fn line<Q>(quantity: Q, account: u8) -> AccountQuantity<Q>
+pub(crate) fn line<Q>(quantity: Q, account: u8) -> AccountQuantity<Q>
     ensures { result ≡ record { account = account; quantity = quantity } }
 {
     AccountQuantity { account, quantity }
