@@ -1,4 +1,5 @@
 // The cost reconciliation of two operators in two areas, what books answer, and the records of a batch with their bills.
+// A function prints a line or a table of its report; what is printed in several places has a Display.
 #![tactic(auto)]
 
 mod batch;

@@ -1,4 +1,5 @@
 // A program that closes a small year, from opening to statements.
+// A function prints a line or a table of its report; what is printed in several places has a Display.
 #![tactic(auto)]
 
 mod closed_year;
