@@ -11,8 +11,8 @@ pub(crate) const ACCOUNT_COUNT: usize = ACCOUNTS as usize;
 // `statements` has a number of areas of its own: neither crate rests on the other.
 pub(crate) const AREA_COUNT: usize = AREAS as usize;
 
-// An area by its number, made where the areas are gone through. An account stays an index: each of the four functions that
-// ask for one is called at once from `from_fn` over all accounts, and a type would be made and taken apart there.
+// An area by its number, made where the areas are gone through. An account is still an index, which four functions ask to
+// be below 64: a type like this one was not tried for it.
 #[derive(Clone, Copy)]
 pub(crate) struct Area {
     pub(crate) index: usize,
