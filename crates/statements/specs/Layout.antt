@@ -1,5 +1,5 @@
 -- The bytes of a statement, and the statement that bytes make.
-use Rattle.std.specs.Prelude.{ℕ, ◌+◌, ◌*◌, List, [], ◌∷◌, ◌++◌, map, ℤ, slice_index}
+use Rattle.std.specs.Prelude.{ℕ, ◌+◌, ◌*◌, List, [], ◌∷◌, ◌++◌, map, ℤ, pos, slice_index}
 use Rattle.std.specs.List.{range_with_len, flat_map}
 use Rattle.amounts.specs.Ranges.{areas}
 use Rattle.statements.specs.declared.statement.AreaAmounts.{AreaAmounts}
@@ -10,7 +10,11 @@ use Rattle.statements.specs.Amounts.{amount_bytes, amount_at}
 abbrev pub amounts_of : AreaAmounts → List ℤ
 amounts_of a = a.metered ∷ a.modelled ∷ a.energy ∷ a.delivery ∷ a.volume ∷ a.volume_energy ∷ a.volume_delivery ∷ a.cost ∷ []
 
--- its 64 bytes
+-- an area where nothing is, which stands past the end of a list
+abbrev pub no_amounts : AreaAmounts
+no_amounts = record { metered = pos 0; modelled = pos 0; energy = pos 0; delivery = pos 0; volume = pos 0; volume_energy = pos 0; volume_delivery = pos 0; cost = pos 0 }
+
+-- the 64 bytes of an area
 unfoldable pub area_bytes : AreaAmounts → List ℕ
 area_bytes a = flat_map amount_bytes (amounts_of a)
 

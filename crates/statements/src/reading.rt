@@ -1,5 +1,5 @@
 // Reading a statement from a buffer.
-ghost use Rattle.std.specs.Prelude.{◌≡◌, cond, Some, None, length};
+ghost use Rattle.std.specs.Prelude.{◌≡◌, length, is_some, IfSome};
 ghost use Rattle.amounts.specs.Ranges.{areas as area_count};
 ghost use Rattle.statements.specs.Amounts.{amount_at};
 ghost use Rattle.statements.specs.Layout.{area_at, areas_at, statement_at};
@@ -33,28 +33,29 @@ fn read_areas(bytes: &[u8; AREAS_SIZE]) -> [AreaAmounts; AREA_COUNT]
     array::from_fn(|i| read_area(&areas[i]))
 }
 
-// The statement of the bytes from the place on, unless they are too few.
-fn read_parts(buffer: &[u8], place: usize) -> Option<Statement>
-    ensures { result ≡ cond (has_room (length buffer.now) place) (Some (statement_at buffer.now place)) None }
+// The account, the areas' bytes and the cost's bytes of the statement from the place on, unless the bytes are too few.
+fn read_parts(buffer: &[u8], place: usize) -> Option<(u8, &[u8; AREAS_SIZE], &[u8; AMOUNT_SIZE])>
+    ensures room { is_some result ≡ has_room (length buffer.now) place }
+    ensures parts { IfSome result (λ p. record { account = p.0; areas = areas_at area_count p.1.now 0; cost = amount_at p.2.now 0 } ≡ statement_at buffer.now place) }
 {
     let (account, rest) = buffer.get(place..)?.split_first()?;
     let (areas, rest) = rest.split_first_chunk::<AREAS_SIZE>()?;
     let cost = rest.first_chunk::<AMOUNT_SIZE>()?;
-    Some(Statement {
-        account: *account,
-        areas: read_areas(areas),
-        cost: read_amount(cost),
-    })
+    Some((*account, areas, cost))
 }
 
-// Reads the statement of the 1,289 bytes from the place on.
+// Reads the statement of the 1,289 bytes from the place on. Amounts are read once the account is known to exist.
 #[tactic(auto, unfolding(crate::specs::Outcomes::statement_read))]
 pub fn read_statement(buffer: &[u8], place: usize) -> Result<Statement, ReadStatementFault>
     ensures answer { result ≡ statement_read buffer.now place }
 {
-    let statement = read_parts(buffer, place).ok_or(ReadStatementFault::Incomplete)?;
-    if !account_exists(statement.account) {
+    let (account, areas, cost) = read_parts(buffer, place).ok_or(ReadStatementFault::Incomplete)?;
+    if !account_exists(account) {
         return Err(ReadStatementFault::NoSuchAccount);
     }
-    Ok(statement)
+    Ok(Statement {
+        account,
+        areas: read_areas(areas),
+        cost: read_amount(cost),
+    })
 }

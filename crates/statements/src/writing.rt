@@ -1,9 +1,10 @@
 // Writing a statement into a lent buffer. A tail is what is left of the buffer from some place on.
 // Tails are passed on, since the buffer is lent: each function says how long its tail is.
-ghost use Rattle.std.specs.Prelude.{◌≡◌, ◌≤◌, false, ◌∷◌, ◌++◌, map, length, drop, is_ok, Ok, OnOk};
+ghost use Rattle.std.specs.Prelude.{◌≡◌, ◌<◌, ◌≤◌, false, pos, slice_index_or, ◌∷◌, ◌++◌, map, length, drop, is_ok, Ok, OnOk};
 ghost use Rattle.std.specs.List.{flat_map, AllByRecursion};
+ghost use Rattle.amounts.specs.Ranges.{areas as area_count};
 ghost use Rattle.statements.specs.Amounts.{amount_bytes};
-ghost use Rattle.statements.specs.Layout.{amounts_of, area_bytes, statement_bytes, statement_size};
+ghost use Rattle.statements.specs.Layout.{amounts_of, no_amounts, area_bytes, statement_bytes, statement_size};
 ghost use Rattle.statements.specs.Outcomes.{write_outcome, buffer_after, SameOutside, statement_read};
 ghost use Rattle.statements.specs.Fits.{AreaFits, StatementFits};
 
@@ -13,6 +14,7 @@ use crate::statement::{
     Statement, has_room,
 };
 use amounts::account_exists;
+use std::array;
 
 // The bytes of the amount.
 fn bytes_of(amount: i64) -> [u8; AMOUNT_SIZE]
@@ -21,12 +23,19 @@ fn bytes_of(amount: i64) -> [u8; AMOUNT_SIZE]
     amount.to_le_bytes()
 }
 
-// The bytes of each amount of the area.
-fn area_bytes_of(area: AreaAmounts) -> [[u8; AMOUNT_SIZE]; AREA_AMOUNTS]
-    ensures bytes { result ≡ map amount_bytes (amounts_of area) }
-    ensures fits { AreaFits area }
+// The bytes of each amount of the area. By index, since `map` moves each item of an array through an Option; and the
+// closure has clauses, since a proof knows nothing else of one that gives an array.
+fn area_bytes_of(area: &AreaAmounts) -> [[u8; AMOUNT_SIZE]; AREA_AMOUNTS]
+    ensures bytes { result ≡ map amount_bytes (amounts_of area.now) }
+    ensures fits { AreaFits area.now }
 {
-    <[i64; AREA_AMOUNTS]>::from(area).map(bytes_of)
+    let amounts = <[i64; AREA_AMOUNTS]>::from(*area);
+    array::from_fn(
+        |i|
+            requires { i < 8 }
+            ensures { result ≡ amount_bytes (slice_index_or amounts i (pos 0)) }
+        { bytes_of(amounts[i]) },
+    )
 }
 
 // Writes the areas one after another, from the front of the tail on.
@@ -35,7 +44,13 @@ fn write_areas(tail: &mut [u8], areas: &[AreaAmounts; AREA_COUNT])
     ensures after { tail.new ≡ flat_map area_bytes areas.now ++ drop 1280 tail.old }
     ensures fits { AllByRecursion AreaFits areas.now }
 {
-    let bytes = areas.map(area_bytes_of);
+    let bytes: [_; AREA_COUNT] = array::from_fn(
+        |i|
+            requires { i < area_count }
+            ensures bytes { result ≡ map amount_bytes (amounts_of (slice_index_or areas.entry.now i no_amounts)) }
+            ensures fits { AreaFits (slice_index_or areas.entry.now i no_amounts) }
+        { area_bytes_of(&areas[i]) },
+    );
     tail[0..AREAS_SIZE].copy_from_slice(bytes.as_flattened().as_flattened());
 }
 

@@ -1,5 +1,5 @@
 -- A block by functions of the account and the area: s the sums, v the volume adjustments, c the delivery and e the energy cost adjustments.
-use Rattle.std.proofs.Common.{◌≡◌, ℕ, ◌/◌, ◌%◌, ◌<◌, List, map, length, get_or, ℤ, pos, refl, ◌∙◌, ap₂, arith}
+use Rattle.std.proofs.Common.{◌≡◌, ℕ, ◌/◌, ◌%◌, ◌<◌, List, map, length, get_or, ℤ, pos, refl, ap, ◌∙◌, ap₂, arith}
 use Rattle.std.specs.List.{range_with_len}
 use Rattle.std.proofs.lemmas.List.FromFn.{get_or-map-range_with_len, length-map-range_with_len}
 use Rattle.amounts.specs.Ranges.{accounts, areas}
@@ -8,7 +8,7 @@ use Rattle.ledger.specs.declared.block.AccountRecord.{AccountRecord}
 use Rattle.ledger.specs.declared.block.Cell.{Cell}
 use Rattle.ledger.specs.declared.block.Sums.{Sums}
 use Rattle.ledger.specs.declared.block.VolumeAdjustment.{VolumeAdjustment}
-use Rattle.year.proofs.Counted.{replicated, account_of_number, area_of_number, number_below}
+use Rattle.year.proofs.Counted.{counting_ext, replicated, account_below, area_below, account_of_number, area_of_number, number_below}
 
 abbrev pub cell_of : Sums → VolumeAdjustment → ℤ → Cell
 cell_of s v c = record { sums = s; volume = v; cost = c }
@@ -48,6 +48,18 @@ module _ (s : ℕ → ℕ → Sums) (v : ℕ → ℕ → VolumeAdjustment) (c : 
 pub accounts_index : (e : ℕ → ℤ) (a : ℕ) → a < accounts → account_at (accounts_of e) a ≡ account_by e a
 unfolding accounts_of
 accounts_index e a l = get_or-map-range_with_len (account_by e) 0 accounts a a zero_account l (omega arith)
+
+-- ---- functions that are equal within the ranges give equal blocks
+pub cells_ext : (s t : ℕ → ℕ → Sums) (v w : ℕ → ℕ → VolumeAdjustment) (c d : ℕ → ℕ → ℤ) → ((a r : ℕ) → a < accounts → r < areas → s a r ≡ t a r) → ((a r : ℕ) → a < accounts → r < areas → v a r ≡ w a r) → ((a r : ℕ) → a < accounts → r < areas → c a r ≡ d a r) → cells_of s v c ≡ cells_of t w d
+unfolding cells_of
+cells_ext s t v w c d e f g =
+    counting_ext (cell_by s v c) (cell_by t w d) 0 cell_count (λ i _ u.
+    let k : i < cell_count = omega arith in
+    same_cell (e (i / areas) (i % areas) (account_below i k) (area_below i)) (f (i / areas) (i % areas) (account_below i k) (area_below i)) (g (i / areas) (i % areas) (account_below i k) (area_below i)))
+
+pub accounts_ext : (e f : ℕ → ℤ) → ((a : ℕ) → a < accounts → e a ≡ f a) → accounts_of e ≡ accounts_of f
+unfolding accounts_of
+accounts_ext e f h = counting_ext (account_by e) (account_by f) 0 accounts (λ a _ u. ap (λ z. record { cost = z }) (h a (omega arith)))
 
 -- ---- a cleared block
 abbrev pub no_sums : ℕ → ℕ → Sums

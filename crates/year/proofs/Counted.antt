@@ -16,6 +16,9 @@ pub replicated : {X : Type 0} (f : ℕ → X) (n : ℕ) (x : X) → ((i : ℕ) �
 replicated f n x h = fill_by_all f (replicate n x) n x (length-replicate n x) (λ i l. let e : f i ≡ x = h i in get_or-replicate n i x x l ∙ sym e)
 
 -- ---- the account and the area of a cell, by its index
+pub account_below : (i : ℕ) → i < cell_count → i / areas < accounts
+account_below i l = omega arith
+
 pub area_below : (i : ℕ) → i % areas < areas
 area_below i = omega arith
 

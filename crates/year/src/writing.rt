@@ -6,6 +6,7 @@ ghost use Rattle.year.specs.Outcomes.{with_volumes, with_costs, account_with_cos
 
 use amounts::ACCOUNTS;
 use ledger::{AccountRecord, CELLS, Cell, VolumeAdjustment};
+use std::array;
 
 // The counts are a `requires`: `as_mut_array` would bring a None that cannot come, since the block was tested before.
 // The table is read by an index: after a `zip` with `iter_mut`, a proof knows the length of the cells and no cell.
@@ -40,5 +41,6 @@ pub(crate) fn set_accounts(accounts: &mut [AccountRecord], table: &[i64; ACCOUNT
     requires { length accounts.old ≡ account_count }
     ensures { accounts.new ≡ accounts_with_costs table.now }
 {
-    accounts.copy_from_slice(&table.map(account_with_cost));
+    let records: [_; ACCOUNTS as usize] = array::from_fn(|i| account_with_cost(table[i]));
+    accounts.copy_from_slice(&records);
 }

@@ -1,6 +1,6 @@
 use Rattle.std.proofs.Common.{get_or, pos, ◌∙◌, rules}
-use Rattle.std.proofs.lemmas.List.FromFn.{fill_by_all}
 use Rattle.amounts.specs.Ranges.{accounts}
+use Rattle.amounts.proofs.Made.{made_by}
 use Rattle.ledger.specs.Blocks.{zero_account}
 use Rattle.year.specs.Outcomes.{account_with_cost, accounts_with_costs}
 use Rattle.year.proofs.writing.set_accounts.Goals as goal
@@ -9,6 +9,4 @@ pub returns : goal.returns
 unfolding accounts_with_costs
 returns c =
     c.copy_from_slice.ensures.after
-    ∙ fill_by_all (λ k. account_with_cost (get_or c.args.table.now k (pos 0))) c.map.result accounts zero_account c.map.ensures.items.long (λ k less.
-    let h = c.map.ensures.items.at k (pos 0) zero_account less in
-    search rules)
+    ∙ made_by _ (λ k. account_with_cost (get_or c.args.table.now k (pos 0))) _ (λ i y q called. search rules) c.from_fn-records.result zero_account accounts c.from_fn-records.ensures.items
