@@ -1,7 +1,8 @@
 -- Laws of lines in the order of their keys. Assumes nothing.
-use Rattle.std.proofs.Common.{◌≡◌, ℕ, zero, suc, ◌+◌, ◌<◌, ◌≤◌, Bool, true, false, cond, eqb, ltb, leb, List, [], ◌∷◌, length, take, drop, set, is_some, Some, None, Option, sym, refl, ap, ◌∙◌, subst, inl, inr, le_of_suc-le-suc, arith}
+use Rattle.std.proofs.Common.{◌≡◌, ℕ, zero, suc, ◌+◌, ◌<◌, ◌≤◌, Bool, true, false, cond, eqb, ltb, leb, List, [], ◌∷◌, length, get_or, take, drop, set, is_some, Some, None, Option, sym, refl, ap, ◌∙◌, subst, inl, inr, le_of_suc-le-suc, arith}
 use Rattle.std.proofs.lemmas.List.Elements.{All-nil, All-cons, All-append, All-take, All-drop, All-set, All-weaker, All-contains, Contains-append_left, Contains-append_right, Contains-push}
 use Rattle.std.proofs.lemmas.List.Kept.{AllPairs-cons}
+use Rattle.std.proofs.lemmas.List.{at_drop_more, at_drop_all}
 use Rattle.std.proofs.lemmas.Bool.{eq-eqb, ltb-true, ltb-false, lt-ltb, le-ltb, eqb-true, cond-true, cond-false, cond_both, cases_order}
 use Rattle.std.proofs.lemmas.Bool.Decides.{nat_tests}
 use Rattle.std.proofs.lemmas.List.Sums.{prefix_len-le-length}
@@ -46,6 +47,16 @@ module _ {L : Type 0} (key : L → ℕ) where
       let more : suc p ≡ 1 + p = omega arith in
       cond_both (ltb (key x) k) (1 + p) 0 P (λ t. subst P more (below t)) not_below
 
+  -- the same of the lines from i on
+  pub point_more : (k : ℕ) (xs : List L) (i : ℕ) (x : L) → i < length xs → x ≡ get_or xs i x → insertion_point key k (drop i xs) ≡ cond (ltb (key x) k) (suc (insertion_point key k (drop (i + 1) xs))) 0
+  point_more k xs i x h e =
+      let p = insertion_point key k (drop (i + 1) xs) in
+      let more : 1 + p ≡ suc p = omega arith in
+      at_drop_more (insertion_point key k) xs i x h ∙ ap (λ y. cond (ltb (key y) k) (1 + p) 0) (sym e) ∙ ap (λ m. cond (ltb (key x) k) m 0) more
+
+  pub point_all : (k : ℕ) (xs : List L) (i : ℕ) → length xs ≤ i → insertion_point key k (drop i xs) ≡ 0
+  point_all k xs i h = at_drop_all (insertion_point key k) xs i h
+
   -- what `position` answers, or the length
   pub point_or_len : (k : ℕ) (xs : List L) (o : Option ℕ) → o ≡ position (λ x. leb k (key x)) xs → unwrap_or o (length xs) ≡ insertion_point key k xs
   point_or_len k xs o e =
@@ -57,6 +68,15 @@ module _ {L : Type 0} (key : L → ℕ) where
   pub found_first : (k : ℕ) (xs : List L) → option_and_then (λ x. then_some (eqb (key x) k) x) (find (λ x. leb k (key x)) xs) ≡ lookup key k xs
   found_first k [] = refl
   found_first k (x ∷ xs) = let rest = found_first k xs in grind (arith, nat_tests)
+
+  -- what is found is the line at the insertion point, if it has the key
+  pub lookup_at : (k : ℕ) (xs : List L) (x : L) → insertion_point key k xs < length xs → x ≡ get_or xs (insertion_point key k xs) x → lookup key k xs ≡ cond (eqb (key x) k) (Some x) None
+  lookup_at k [] x h e = absurd (omega arith)
+  lookup_at k (y ∷ ys) x h e =
+      at_point k y ys (λ p. p < suc (length ys) → x ≡ get_or (y ∷ ys) p x → lookup key k (y ∷ ys) ≡ cond (eqb (key x) k) (Some x) None)
+      (λ t h e. cond-true (ltb (key y) k) _ _ t ∙ lookup_at k ys x (le_of_suc-le-suc h) e)
+      (λ t h e. cond-false (ltb (key y) k) _ _ t ∙ ap (λ z. cond (eqb (key z) k) (Some z) None) (sym e))
+      h e
 
   pub lookup_past : (k : ℕ) (xs : List L) → length xs ≤ insertion_point key k xs → lookup key k xs ≡ None
   lookup_past k [] h = refl

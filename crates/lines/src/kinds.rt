@@ -4,8 +4,8 @@ ghost use Rattle.lines.specs.Kinds.{electricity_number, kind_number};
 
 #[derive(Clone, Copy, PartialEq, Eq, Debug)]
 pub enum Electricity {
-    Ac = 1,
-    Dc = 2,
+    Ac,
+    Dc,
 }
 
 // What a train of a category is made of: a multiple unit, or coaches or wagons that locomotives haul.
@@ -17,16 +17,21 @@ pub enum UnitKind {
 
 #[derive(Clone, Copy, PartialEq, Eq, Debug)]
 pub enum MeteredKind {
-    MultipleUnitJourney = 1,
-    HauledJourney = 2,
-    NonJourney = 3,
+    MultipleUnitJourney,
+    HauledJourney,
+    NonJourney,
 }
 
+// A match gives the numbers, here and below, and no discriminants do: no two cases can have one discriminant, so the slip that two
+// kinds have one number could not be planted; and a cast of a kind, which counts the cases from 0, keeps its value.
 impl Electricity {
     pub fn number(self) -> u8
         ensures { result ≡ electricity_number self }
     {
-        self as u8
+        match self {
+            Electricity::Ac => 1,
+            Electricity::Dc => 2,
+        }
     }
 }
 
@@ -34,6 +39,10 @@ impl MeteredKind {
     pub fn number(self) -> u8
         ensures { result ≡ kind_number self }
     {
-        self as u8
+        match self {
+            MeteredKind::MultipleUnitJourney => 1,
+            MeteredKind::HauledJourney => 2,
+            MeteredKind::NonJourney => 3,
+        }
     }
 }
