@@ -14,6 +14,9 @@ use Rattle.reconciling.specs.Outcomes.{or_then, fault_unless, lowest_area, unles
 use Rattle.reconciling.specs.Rows.{RangedRows}
 
 -- ---- one check before the next
+pub stopped : (b : Bool) (f : ReconcileFault) (next : Option ReconcileFault) → b ≡ false → or_then (fault_unless b f) next ≡ Some f
+stopped b f next e = ap (λ (x : Bool). or_then (fault_unless x f) next) e
+
 pub passed : (b : Bool) (f : ReconcileFault) (next : Option ReconcileFault) → b ≡ true → or_then (fault_unless b f) next ≡ next
 passed b f next e = ap (λ (x : Bool). or_then (fault_unless x f) next) e
 
@@ -73,6 +76,14 @@ ok_or_err {A} {E} o false y f g e h = let k : ◌≡◌ {A = Result A E} (Err f)
 pub ok_or_unless : {A : Type 0} (b : Bool) (f : ReconcileFault) (x : A) → ok_or (cond b (Some x) None) f ≡ unless_fault (fault_unless b f) x
 ok_or_unless true f x = refl
 ok_or_unless false f x = refl
+
+-- the same, of a value that is found and of one that is not
+module _ {A : Type 0} (b : Bool) (f : ReconcileFault) (x : A) where
+  pub answered : (y : A) → Some y ≡ cond b (Some x) None → Ok y ≡ unless_fault (fault_unless b f) x
+  answered y e = ap (λ o. ok_or o f) e ∙ ok_or_unless b f x
+
+  pub refused : None ≡ cond b (Some x) None → Err f ≡ unless_fault (fault_unless b f) x
+  refused e = ap (λ o. ok_or o f) e ∙ ok_or_unless b f x
 
 -- ---- the rows of a sheet
 -- the first place that passes is the lowest

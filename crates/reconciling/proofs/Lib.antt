@@ -1,5 +1,7 @@
 pub mod Checks
 pub mod Mapped
+pub mod Filled
+pub mod Bounded
 pub mod Tables
 pub mod Additions
 pub mod Ranged

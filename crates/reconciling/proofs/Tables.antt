@@ -37,8 +37,11 @@ pub record Columns {X : Type 0} (f : ℕ → ℕ → X) (d : X) (table : List X)
   pub written : (account area : ℕ) → account < accounts → area < i → get_or table (cell_number account area) d ≡ f account area
 
 module _ {X : Type 0} (f : ℕ → ℕ → X) (d : X) where
+  pub columns_start : (table : List X) → length table ≡ cell_count → Columns f d table 0
+  columns_start table count = record { count = count; written = λ account area l m. absurd (omega arith) }
+
   pub columns_none : (y : X) → Columns f d (replicate cell_count y) 0
-  columns_none y = record { count = length-replicate cell_count y; written = λ account area l m. absurd (omega arith) }
+  columns_none y = columns_start (replicate cell_count y) (length-replicate cell_count y)
 
   pub columns_more : (old new column : List X) (i : ℕ) → Columns f d old i → i < areas → length new ≡ cell_count
       → ((account : ℕ) (e : X) → account < accounts → get_or new (cell_number account i) e ≡ get_or column account e)

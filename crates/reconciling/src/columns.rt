@@ -1,14 +1,12 @@
 // A table with an entry for each account and area, written area by area.
-ghost use Rattle.std.specs.Prelude.{◌≡◌, ℕ, ◌/◌, ◌%◌, ◌<◌, Bool, map, length, ◌≢◌, slice_index_or};
+ghost use Rattle.std.specs.Prelude.{◌≡◌, ℕ, ◌/◌, ◌%◌, ◌<◌, Bool, not, map, length, ◌≢◌, None, slice_index_or};
 ghost use Rattle.std.specs.List.{range_with_len};
+ghost use Rattle.amounts.specs.Lowest.{lowest};
 ghost use Rattle.amounts.specs.Ranges.{accounts, areas};
 ghost use Rattle.ledger.specs.Blocks.{cell_count, cell_number};
 ghost use Rattle.reconciling.specs.Columns.{ColumnsBy};
-ghost use Rattle.reconciling.specs.Outcomes.{unless_fault, lowest_area};
 ghost use Rattle.reconciling.specs.declared.places.Area.{Area};
-ghost use Rattle.reconciling.specs.declared.fault.ReconcileFault.TheVariants as fault;
 
-use crate::fault::ReconcileFault;
 use crate::places::{ACCOUNT_COUNT, AREA_COUNT, Area, cell_index};
 use ledger::CELLS;
 
@@ -26,19 +24,23 @@ fn write_column<T: Copy>(table: &mut [T], area: Area, column: &[T])
     }
 }
 
-// The table with each area's column, or the fault of the lowest area that has none.
-pub(crate) fn table_by_area<T: Copy + Default, F: Fn(Area) -> Option<[T; ACCOUNT_COUNT]>>(
+// Writes each area's column, and answers the lowest area that has none, if there is one. The caller lends the table:
+// one that is handed back is copied by every function that hands it on.
+pub(crate) fn write_columns<T: Copy, F: Fn(Area) -> Option<[T; ACCOUNT_COUNT]>>(
+    table: &mut [T; CELLS],
     column_of: F,
-) -> Result<[T; CELLS], ReconcileFault>
+) -> Option<usize>
     requires { (area : Area) → F.pre column_of area }
-    ensures { (passes : ℕ → Bool) (entry : ℕ → ℕ → T) → ColumnsBy (F.post column_of) passes entry → result ≡ unless_fault (lowest_area passes (λ area. fault.AreaBeyondLimits area)) (map (λ i. entry (i / areas) (i % areas)) (range_with_len 0 cell_count)) }
+    ensures answer { (passes : ℕ → Bool) (entry : ℕ → ℕ → T) → ColumnsBy (F.post column_of) passes entry → result ≡ lowest (λ area. not (passes area)) areas }
+    ensures written { (passes : ℕ → Bool) (entry : ℕ → ℕ → T) → ColumnsBy (F.post column_of) passes entry → result ≡ None → table.new ≡ map (λ i. entry (i / areas) (i % areas)) (range_with_len 0 cell_count) }
 {
-    let mut table = [T::default(); CELLS];
-    // A loop: of `try_from_fn` a proof knows that some area failed, and the fault names the lowest.
+    // A loop: of `try_from_fn` a proof knows that some area failed, and the lowest is answered.
     for index in 0..AREA_COUNT {
         let area = Area { index };
-        let column = column_of(area).ok_or(ReconcileFault::AreaBeyondLimits { area: index })?;
-        write_column(&mut table, area, &column);
+        let Some(column) = &column_of(area) else {
+            return Some(index);
+        };
+        write_column(table, area, column);
     }
-    Ok(table)
+    None
 }

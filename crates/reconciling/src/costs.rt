@@ -9,7 +9,7 @@ ghost use Rattle.reconciling.specs.Outcomes.{sums_in, volumes_in, unless_fault, 
 
 use crate::billed::Billed;
 use crate::cells::CheckedCells;
-use crate::columns::table_by_area;
+use crate::columns::write_columns;
 use crate::cost_lines::share_over_all;
 use crate::fault::ReconcileFault;
 use crate::in_range::InRange;
@@ -44,7 +44,11 @@ fn delivery_adjustments(
 ) -> Result<[i64; CELLS], ReconcileFault>
     ensures { result ≡ unless_fault (delivery_limit_fault cells.now costs.now) (delivery_adjustments (sums_in cells.now) (volumes_in cells.now) costs.now) }
 {
-    table_by_area(|area| area_delivery(cells, costs, area))
+    let mut table = [0; CELLS];
+    match write_columns(&mut table, |area| area_delivery(cells, costs, area)) {
+        Some(area) => Err(ReconcileFault::AreaBeyondLimits { area }),
+        None => Ok(table),
+    }
 }
 
 // The adjustments of every account, for energy over the network.

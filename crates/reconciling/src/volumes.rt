@@ -12,7 +12,7 @@ ghost use Rattle.reconciling.specs.Sheets.{row_at, whole};
 ghost use Rattle.reconciling.specs.Volumes.{billed_kwh, discrepancy, managers_kwh, volume_kwh, volume_adjustment, volume_adjustments};
 
 use crate::cells::CheckedCells;
-use crate::columns::table_by_area;
+use crate::columns::write_columns;
 use crate::fault::ReconcileFault;
 use crate::in_range::InRange;
 use crate::places::{ACCOUNT_COUNT, Area};
@@ -99,7 +99,11 @@ fn priced_areas(
 ) -> Result<[VolumeAdjustment; CELLS], ReconcileFault>
     ensures { result ≡ unless_fault (volume_limit_fault cells.now sheet.now) (volume_adjustments (sums_in cells.now) sheet.now) }
 {
-    table_by_area(|area| area_adjustments(cells, sheet, area))
+    let mut table = [VolumeAdjustment::default(); CELLS];
+    match write_columns(&mut table, |area| area_adjustments(cells, sheet, area)) {
+        Some(area) => Err(ReconcileFault::AreaBeyondLimits { area }),
+        None => Ok(table),
+    }
 }
 
 // The volume adjustment of every cell, by the sheet's row of its area.

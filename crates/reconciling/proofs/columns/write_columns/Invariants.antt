@@ -3,7 +3,7 @@ use Rattle.ledger.specs.Blocks.{cell_count}
 use Rattle.reconciling.specs.Columns.{ColumnsBy}
 use Rattle.reconciling.proofs.Checks.{AllPass}
 use Rattle.reconciling.proofs.Tables.{Columns}
-use Rattle.reconciling.proofs.columns.table_by_area.Given as goal
+use Rattle.reconciling.proofs.columns.write_columns.Given as goal
 
 abbrev pub invariant-loop-index : goal.invariant-loop-index
 invariant-loop-index g l = record {
