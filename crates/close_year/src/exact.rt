@@ -1,5 +1,6 @@
 // The exact proportion of an amount, to be printed: whole units, and what remains over the total weight.
-ghost use Rattle.std.specs.Prelude.{◌≡◌, ◌+◌, ◌*◌, ◌<◌, IfSome, nat_lt, unsigned_abs};
+ghost use Rattle.std.specs.Prelude.{◌≡◌, ◌+◌, ◌*◌, ◌<◌, pos, IfSome, Some, int_lt, nat_lt, unsigned_abs};
+ghost use Rattle.close_year.specs.Exact.{exact_text};
 
 use amounts::Divisor;
 use std::fmt;
@@ -28,6 +29,12 @@ impl ExactShare {
         })
     }
 
+    fn is_negative(&self) -> bool
+        ensures { result ≡ int_lt self.now.amount (pos 0) }
+    {
+        self.amount < 0
+    }
+
     // Whether a part has more than the whole units.
     pub(crate) fn is_exceeded_by(&self, part: i64) -> bool
         ensures { result ≡ nat_lt self.now.quotient (unsigned_abs part) }
@@ -37,8 +44,10 @@ impl ExactShare {
 }
 
 impl fmt::Display for ExactShare {
+    ghost output = { λ share. Some (exact_text share) };
+
     fn fmt<W: fmt::Write>(&self, f: &mut fmt::Formatter<W>) -> fmt::Result {
-        let sign = if self.amount < 0 { "-" } else { "" };
+        let sign = if self.is_negative() { "-" } else { "" };
         write!(
             f,
             "{sign}{} {}/{}",
