@@ -45,10 +45,10 @@ fn delivery_adjustments(
     ensures { result ≡ unless_fault (delivery_limit_fault cells.now costs.now) (delivery_adjustments (sums_in cells.now) (volumes_in cells.now) costs.now) }
 {
     let mut table = [0; CELLS];
-    match write_columns(&mut table, |area| area_delivery(cells, costs, area)) {
-        Some(area) => Err(ReconcileFault::AreaBeyondLimits { area }),
-        None => Ok(table),
+    if let Some(area) = write_columns(&mut table, |area| area_delivery(cells, costs, area)) {
+        return Err(ReconcileFault::AreaBeyondLimits { area });
     }
+    Ok(table)
 }
 
 // The adjustments of every account, for energy over the network.

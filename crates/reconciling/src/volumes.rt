@@ -100,10 +100,10 @@ fn priced_areas(
     ensures { result ≡ unless_fault (volume_limit_fault cells.now sheet.now) (volume_adjustments (sums_in cells.now) sheet.now) }
 {
     let mut table = [VolumeAdjustment::default(); CELLS];
-    match write_columns(&mut table, |area| area_adjustments(cells, sheet, area)) {
-        Some(area) => Err(ReconcileFault::AreaBeyondLimits { area }),
-        None => Ok(table),
+    if let Some(area) = write_columns(&mut table, |area| area_adjustments(cells, sheet, area)) {
+        return Err(ReconcileFault::AreaBeyondLimits { area });
     }
+    Ok(table)
 }
 
 // The volume adjustment of every cell, by the sheet's row of its area.

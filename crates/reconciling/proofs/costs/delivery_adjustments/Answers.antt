@@ -13,11 +13,11 @@ returns-in-Some c =
     let lowest = c.write_columns.ensures.answer (delivery_in_limit cells costs) (delivery_adjustment (sums_in cells) (volumes_in cells) costs) (record { each = λ area r said. search rules }) in
     ap (λ o. unless_fault (option_map (λ area. fault.AreaBeyondLimits area) o) (delivery_adjustments (sums_in cells) (volumes_in cells) costs)) (sym c.in-Some.is ∙ lowest)
 
-pub returns-in-None : goal.returns-in-None
+pub returns : goal.returns
 unfolding delivery_limit_fault delivery_adjustments
-returns-in-None c =
+returns c =
     let cells = c.args.cells.now in
     let costs = c.args.costs.now in
     let lowest = c.write_columns.ensures.answer (delivery_in_limit cells costs) (delivery_adjustment (sums_in cells) (volumes_in cells) costs) (record { each = λ area r said. search rules }) in
-    let table = c.write_columns.ensures.written (delivery_in_limit cells costs) (delivery_adjustment (sums_in cells) (volumes_in cells) costs) (record { each = λ area r said. search rules }) c.in-None.is in
-    ap Ok table ∙ ap (λ o. unless_fault (option_map (λ area. fault.AreaBeyondLimits area) o) (delivery_adjustments (sums_in cells) (volumes_in cells) costs)) (sym c.in-None.is ∙ lowest)
+    let table = c.write_columns.ensures.written (delivery_in_limit cells costs) (delivery_adjustment (sums_in cells) (volumes_in cells) costs) (record { each = λ area r said. search rules }) c.in_default.is in
+    ap Ok table ∙ ap (λ o. unless_fault (option_map (λ area. fault.AreaBeyondLimits area) o) (delivery_adjustments (sums_in cells) (volumes_in cells) costs)) (sym c.in_default.is ∙ lowest)
