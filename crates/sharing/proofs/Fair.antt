@@ -5,7 +5,7 @@ use Rattle.std.proofs.lemmas.Bool.{cases_eq, cases_lt}
 use Rattle.std.proofs.lemmas.Bool.Decides.{nat_tests}
 use Rattle.amounts.specs.Sums.{sum_to, one}
 use Rattle.sharing.specs.Shares.{weight_at, total_weight, quotient, remainder, leftover, rank, gets_extra, size}
-use Rattle.amounts.proofs.Sums.{sum_to_ext, sum_to_le, sum_to_add, sum_to_mul, count_to_le}
+use Rattle.amounts.proofs.Sums.{sum_to_ext, sum_to_le, sum_to_add, sum_to_mul, sum_to_mono, term_le_sum_to, count_to_le}
 use Rattle.sharing.proofs.Ranks.{upper, place_rank, place_rank_counts, place_rank_outside, rank_is, rank_outside}
 
 -- ---- numbers
@@ -50,6 +50,12 @@ module _ (a : ℕ) (ws : List ℕ) (some : 0 < total_weight ws) where
 
   pub quotients_within : sum_to (quotient a ws) n ≤ a
   quotients_within = le_of_mul-le-mul_left {k = total_weight ws} (omega (arith, sums)) some
+
+  pub quotients_upto : (i : ℕ) → i ≤ n → sum_to (quotient a ws) i ≤ a
+  quotients_upto i l = omega (arith, sum_to_mono (quotient a ws) i n l, quotients_within)
+
+  pub quotient_within : (i : ℕ) → i < n → quotient a ws i ≤ a
+  quotient_within i l = omega (arith, term_le_sum_to (quotient a ws) n i l, quotients_within)
 
   leftover_is : total_weight ws * leftover a ws ≡ sum_to (remainder a ws) n
   leftover_is = cut_is (total_weight ws) a (sum_to (quotient a ws) n) (sum_to (remainder a ws) n) sums quotients_within

@@ -3,8 +3,8 @@ use Rattle.std.proofs.Common.{◌≡◌, ℕ, zero, suc, ◌+◌, ◌<◌, ◌�
 use Rattle.std.proofs.lemmas.Bool.{cases_eq, cases_lt}
 use Rattle.std.proofs.lemmas.Bool.Decides.{nat_tests}
 use Rattle.amounts.specs.Sums.{sum_to, count_to, one}
-use Rattle.amounts.proofs.Sums.{sum_to_ext, sum_to_le, sum_to_lt, count_to_le}
-use Rattle.sharing.specs.Shares.{rank_by}
+use Rattle.amounts.proofs.Sums.{sum_to_more, sum_to_ext, sum_to_le, sum_to_lt, count_to_le}
+use Rattle.sharing.specs.Shares.{ranks_before, rank_by}
 
 -- the place j holds more than the place i, or as much and comes earlier
 abbrev pub place_before : (ℕ → ℕ) → ℕ → ℕ → Bool
@@ -92,3 +92,13 @@ module _ (w r : ℕ → ℕ) (empty : (k : ℕ) → w k ≡ 0 → r k ≡ 0) whe
   -- all that hold something come before one that does not
   pub rank_outside : (n i : ℕ) → r i ≡ 0 → upper r 1 n ≤ rank_by w r n i
   rank_outside n i e = sum_to_le _ _ n (λ k m. above (w k) (r k) (r i) (ltb k i) (empty k) e)
+
+-- ---- a loop that counts them, and what it may read them from
+pub rank_step : (w r : ℕ → ℕ) (place j n m : ℕ) (b : Bool) → n ≡ rank_by w r j place → b ≡ ranks_before w r j place → m ≡ n + one b → m ≡ rank_by w r (j + 1) place
+rank_step w r place j n m b e f g = omega (arith, sum_to_more (λ k. one (ranks_before w r k place)) j, ap one f)
+
+same_test : (w x y u v : ℕ) (b : Bool) → x ≡ y → u ≡ v → (ltb 0 w && (ltb x u || (eqb u x && b))) ≡ (ltb 0 w && (ltb y v || (eqb v y && b)))
+same_test w x y u v b e f = cc
+
+pub rank_ext : (w r s : ℕ → ℕ) (n i : ℕ) → i < n → ((k : ℕ) → k < n → r k ≡ s k) → rank_by w r n i ≡ rank_by w s n i
+rank_ext w r s n i l h = sum_to_ext _ _ n (λ k m. ap one (same_test (w k) (r i) (s i) (r k) (s k) (ltb k i) (h i l) (h k m)))

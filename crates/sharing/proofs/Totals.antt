@@ -4,12 +4,12 @@ use Rattle.std.specs.List.{range_with_len, sum, sum_by}
 use Rattle.std.specs.Option.{MatchOption, IfSome}
 use Rattle.std.proofs.lemmas.List.{length-map, get_or_past, get_or-map}
 use Rattle.std.proofs.lemmas.Bool.Decides.{nat_tests}
-use Rattle.std.proofs.lemmas.List.FromFn.{fill_by_all, length-map-range_with_len, get_or-map-range_with_len, take-map-range_with_len, sum_by-map-range_with_len_more}
+use Rattle.std.proofs.lemmas.List.FromFn.{fill_by_all, length-map-range_with_len, get_or-map-range_with_len, sum_by-map-range_with_len_more}
 use Rattle.std.proofs.lemmas.List.Sums.{sum_by-le}
 use Rattle.std.proofs.lemmas.List.Elements.{All-from_get_or}
 use Rattle.amounts.specs.Sums.{sum_to, one}
 use Rattle.amounts.specs.Ranges.{max_divisor}
-use Rattle.sharing.specs.Limits.{WithinLimits, max_weight, max_lines}
+use Rattle.sharing.specs.Limits.{WithinLimits, max_weight}
 use Rattle.sharing.specs.declared.claims.Claim.{Claim}
 use Rattle.sharing.specs.Claims.{claim_at, claims_of, before, units}
 use Rattle.sharing.specs.Shares.{counting_weight, weight_at, total_weight, quotient, remainder, leftover, rank_by, size}
@@ -31,13 +31,6 @@ counts_at f ls i r None past is e =
 counts_at f ls i r (Some x) l is e =
     e ∙ ap (λ y. counting_weight (f y)) is
     ∙ sym (get_or-map counting_weight (map f ls) i (f x.now) 0 (omega (arith, length-map ls f, l)) ∙ ap counting_weight (get_or-map f ls i x.now (f x.now) l))
-
--- what counts of the lines' weights, in a longer array
-pub counted : {L : Type 0} (f : L → ℤ) (ls : List L) (rs : List ℕ) → rs ≡ map (weight_at (map counting_weight (map f ls))) (range_with_len 0 max_lines) → length ls ≤ max_lines → take (length ls) rs ≡ map counting_weight (map f ls)
-counted f ls rs e l =
-    let ws = map counting_weight (map f ls) in
-    let long : length ws ≡ length ls = length-map (map f ls) counting_weight ∙ length-map ls f in
-    ap₂ (λ n xs. take n xs) (sym long) e ∙ take-map-range_with_len (weight_at ws) 0 max_lines (length ws) (omega arith) ∙ sym (listed ws)
 
 -- ---- weights
 pub total_is : (ws : List ℕ) → sum ws ≡ total_weight ws
@@ -70,15 +63,12 @@ module _ (a : ℕ) (ws : List ℕ) where
     left_over = ap (λ x. a - x) (ap (sum_by (λ (c : Claim). c.quotient)) is ∙ quotients_are (length ws))
 
   -- the claims of the lines, at the front of an array
-  module _ (cs : List Claim) (is : cs ≡ claims_of a ws max_lines) (few : length ws ≤ max_lines) where
-    pub lines_claims : take (length ws) cs ≡ claims_of a ws (length ws)
-    lines_claims = ap (take (length ws)) is ∙ take-map-range_with_len (claim_at a ws) 0 max_lines (length ws) few
-
+  module _ (cs : List Claim) (is : take (length ws) cs ≡ claims_of a ws (length ws)) where
     pub inside : (i : ℕ) → i < length (take (length ws) cs) → i < length ws
-    inside i l = omega (arith, ap length lines_claims, length-map-range_with_len (claim_at a ws) 0 (length ws))
+    inside i l = omega (arith, ap length is, length-map-range_with_len (claim_at a ws) 0 (length ws))
 
     claim_is : (i : ℕ) (d : Claim) → i < length (take (length ws) cs) → get_or (take (length ws) cs) i d ≡ claim_at a ws i
-    claim_is i d l = ap (λ xs. get_or xs i d) lines_claims ∙ get_or-map-range_with_len (claim_at a ws) 0 (length ws) i i d (inside i l) (omega arith)
+    claim_is i d l = ap (λ xs. get_or xs i d) is ∙ get_or-map-range_with_len (claim_at a ws) 0 (length ws) i i d (inside i l) (omega arith)
 
     pub index_is : (i : ℕ) (d : Claim) → i < length (take (length ws) cs) → (get_or (take (length ws) cs) i d).index ≡ i
     index_is i d l = ap (λ (o : Claim). o.index) (claim_is i d l)
@@ -86,4 +76,4 @@ module _ (a : ℕ) (ws : List ℕ) where
     pub units_are : (i u : ℕ) (d : Claim) → i < length (take (length ws) cs) → u ≡ leftover a ws → units (get_or (take (length ws) cs) i d) (take (length ws) cs) u ≡ size a ws i
     units_are i u d l e =
         ap (λ o. units o (take (length ws) cs) u) (claim_is i d l)
-        ∙ ap₂ (λ x y. quotient a ws i + one (ltb 0 (weight_at ws i) && ltb x y)) (ap (λ xs. before xs (claim_at a ws i)) lines_claims ∙ before_is (length ws) i) e
+        ∙ ap₂ (λ x y. quotient a ws i + one (ltb 0 (weight_at ws i) && ltb x y)) (ap (λ xs. before xs (claim_at a ws i)) is ∙ before_is (length ws) i) e

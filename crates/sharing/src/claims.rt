@@ -1,6 +1,6 @@
 // What each line claims of an amount, and which claims get one of the units left over.
 ghost use Rattle.std.specs.Prelude.{◌≡◌, ◌≤◌, sum_by};
-ghost use Rattle.sharing.specs.Claims.{comes_before, has_extra};
+ghost use Rattle.sharing.specs.Claims.{comes_before, before, has_extra};
 ghost use Rattle.sharing.specs.Limits.{max_amount};
 
 // The exact share of the line at `index`: the whole units, and what remains by which it is ranked.
@@ -11,6 +11,14 @@ pub(crate) struct Claim {
     pub(crate) quotient: u64,
     pub(crate) remainder: u64,
 }
+
+// What stands where no claim is written.
+pub(crate) const NO_CLAIM: Claim = Claim {
+    index: 0,
+    weight: 0,
+    quotient: 0,
+    remainder: 0,
+};
 
 // What the claims have as quotients in all.
 pub(crate) fn claimed(claims: &[Claim]) -> u64
@@ -29,14 +37,19 @@ fn comes_before(other: &Claim, own: &Claim) -> bool
             || (other.remainder == own.remainder && other.index < own.index))
 }
 
-// Whether the claim gets one of the units left over.
+// How many claims come before this one.
+fn before(own: &Claim, claims: &[Claim]) -> u64
+    ensures { result ≡ before claims.now own.now }
+{
+    claims
+        .iter()
+        .map(|other| u64::from(comes_before(other, own)))
+        .sum()
+}
+
+// Whether the claim gets one of the units left over. One without weight gets none, so it is not ranked.
 pub(crate) fn gets_extra(own: &Claim, claims: &[Claim], leftover: u64) -> bool
     ensures { result ≡ has_extra own.now claims.now leftover }
 {
-    let rank = claims
-        .iter()
-        .filter(|other| comes_before(other, own))
-        .count();
-    // A usize has no From to u64.
-    own.weight > 0 && (rank as u64) < leftover
+    own.weight > 0 && before(own, claims) < leftover
 }

@@ -15,12 +15,12 @@ mod shared;
 mod spreading;
 mod weights;
 
-use checks::{accounts_rise, figures_in_limit};
+use checks::{MAX_LINES, accounts_rise, figures_in_limit};
 pub use fault::ShareFault;
 pub use line::{AccountLine, AccountQuantity, Weighted};
 pub use quantity::{Kwh, Pence};
 use spreading::spread;
-use weights::weights_of;
+use weights::copy_weights;
 
 // Shares `amount` among the lines by their weights, into the first places of `parts`, and answers what is not shared:
 // nothing, unless no line takes part.
@@ -41,6 +41,8 @@ pub fn share<L: AccountLine>(amount: i64, lines: &[L], parts: &mut [i64]) -> Res
     if parts.len() < count {
         return Err(ShareFault::TooFewPlaces);
     }
-    let weights = weights_of(lines);
+    // No heap: an array of the most lines, of which the first are used.
+    let mut weights = [0; MAX_LINES];
+    copy_weights(lines, &mut weights);
     Ok(spread(amount, &weights[..count], parts))
 }

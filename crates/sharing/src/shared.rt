@@ -1,13 +1,11 @@
 // What is shared: the size of an amount, among weights within their limits that have a total.
-ghost use Rattle.std.specs.Prelude.{◌≡◌, ◌≤◌, length};
+ghost use Rattle.std.specs.Prelude.{◌≡◌, ◌≤◌, length, take};
 ghost use Rattle.sharing.specs.Claims.{claim_at, claims_of};
-ghost use Rattle.sharing.specs.Limits.{WithinLimits, max_amount, max_lines};
+ghost use Rattle.sharing.specs.Limits.{WithinLimits, max_amount};
 ghost use Rattle.sharing.specs.Shares.{leftover, total_weight};
 
-use crate::checks::MAX_LINES;
 use crate::claims::{Claim, claimed};
 use amounts::Divisor;
-use std::array;
 
 #[derive(Clone, Copy)]
 pub(crate) struct Shared<'w> {
@@ -34,11 +32,15 @@ impl<'w> Shared<'w> {
         }
     }
 
-    // The claims of the lines. No heap: an array of the most lines, of which the first are used.
-    pub(crate) fn claims(&self) -> [Claim; MAX_LINES]
-        ensures { result ≡ claims_of self.now.size self.now.weights.now max_lines }
+    // Writes the claim of each line into the first places.
+    pub(crate) fn write_claims(&self, claims: &mut [Claim])
+        requires { length self.now.weights.now ≤ length claims.old }
+        ensures { take (length self.now.weights.now) claims.new ≡ claims_of self.now.size self.now.weights.now (length self.now.weights.now) }
     {
-        array::from_fn(|index| self.claim_at(index))
+        let count = self.weights.len();
+        for (index, claim) in claims[..count].iter_mut().enumerate() {
+            *claim = self.claim_at(index);
+        }
     }
 
     // The units left over when each line has the quotient that it claims.

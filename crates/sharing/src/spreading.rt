@@ -5,7 +5,8 @@ ghost use Rattle.sharing.specs.Claims.{units};
 ghost use Rattle.sharing.specs.Limits.{WithinLimits, max_amount};
 ghost use Rattle.sharing.specs.Shares.{part, unshared, written};
 
-use crate::claims::{Claim, gets_extra};
+use crate::checks::MAX_LINES;
+use crate::claims::{Claim, NO_CLAIM, gets_extra};
 use crate::shared::Shared;
 use crate::weights::total_of;
 use amounts::Divisor;
@@ -48,7 +49,9 @@ pub(crate) fn spread(amount: i64, weights: &[u64], parts: &mut [i64]) -> i64
         weights,
         total,
     };
-    let claims = shared.claims();
+    // No heap: an array of the most lines, of which the first are used.
+    let mut claims = [NO_CLAIM; MAX_LINES];
+    shared.write_claims(&mut claims);
     let claims = &claims[..weights.len()];
     let leftover = shared.leftover(claims);
     // By its index: after a `zip` with `iter_mut` a proof knows nothing of what was written.

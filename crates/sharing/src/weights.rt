@@ -1,13 +1,9 @@
 // The weights that count, and their total.
-ghost use Rattle.std.specs.Prelude.{◌≡◌, ◌≤◌, map, sum};
-ghost use Rattle.std.specs.List.{range_with_len};
+ghost use Rattle.std.specs.Prelude.{◌≡◌, ◌≤◌, map, length, take, sum};
 ghost use Rattle.amounts.specs.Ranges.{max_divisor};
-ghost use Rattle.sharing.specs.Limits.{max_lines};
 ghost use Rattle.sharing.specs.Shares.{counting_weight, weight_at};
 
-use crate::checks::MAX_LINES;
 use crate::line::Weighted;
-use std::array;
 
 // What of a weight counts: nothing of one below zero.
 fn counting_weight(weight: i64) -> u64
@@ -25,11 +21,14 @@ fn weight_at<L: Weighted>(lines: &[L], index: usize) -> u64
         .map_or(0, |line| counting_weight(line.weight()))
 }
 
-// What counts of each line's weight. No heap: an array of the most lines, of which the first are used.
-pub(crate) fn weights_of<L: Weighted>(lines: &[L]) -> [u64; MAX_LINES]
-    ensures { result ≡ map (weight_at (map counting_weight (map L.weight lines.now))) (range_with_len 0 max_lines) }
+// Writes what counts of each line's weight into the first places.
+pub(crate) fn copy_weights<L: Weighted>(lines: &[L], weights: &mut [u64])
+    requires { length lines.now ≤ length weights.old }
+    ensures { take (length lines.now) weights.new ≡ map counting_weight (map L.weight lines.now) }
 {
-    array::from_fn(|index| weight_at(lines, index))
+    for (index, weight) in weights[..lines.len()].iter_mut().enumerate() {
+        *weight = weight_at(lines, index);
+    }
 }
 
 pub(crate) fn total_of(weights: &[u64]) -> u64

@@ -2,6 +2,7 @@
 #![tactic(auto)]
 
 mod line;
+mod own_line;
 #[cfg(test)]
 mod quotients;
 #[cfg(test)]

@@ -1,5 +1,6 @@
 // Sharings worked out by hand, into places that held something.
 use crate::line::line;
+use crate::own_line::Line;
 use sharing::{Kwh, share};
 
 #[test]
@@ -19,6 +20,18 @@ fn by_weight(rt: HostRuntime) {
         Ok(0)
     );
     assert_eq!(rt; parts, [-1187, -863, 9]);
+}
+
+#[test]
+fn lines_of_another_type(rt: HostRuntime) {
+    let mut parts = [9; 3];
+    assert_eq!(rt;
+        share(1500, &[Line(6000, 1), Line(20000, 2)], &mut parts),
+        Ok(0)
+    );
+    assert_eq!(rt; parts, [346, 1154, 9]);
+    assert_eq!(rt; share(7, &[Line(-3, 3), Line(0, 5)], &mut parts), Ok(7));
+    assert_eq!(rt; parts, [0, 0, 9]);
 }
 
 #[test]

@@ -9,7 +9,6 @@ use Rattle.sharing.specs.Laws.{FairShare}
 use Rattle.sharing.proofs.Fairness.{fair, fair_at}
 use Rattle.sharing.proofs.Lines.{figures_parts, counting_in_limit}
 use Rattle.sharing.proofs.Outcomes.{ends_at_limits, ends_at_accounts, ends_at_places, ends_shared}
-use Rattle.sharing.proofs.Totals.{counted}
 use Rattle.sharing.proofs.Written.{written_at, written_beyond}
 use Rattle.sharing.proofs.share.Goals as goal
 
@@ -44,8 +43,8 @@ spread-requires g c =
     let ls = c.args.lines.now in
     let f = g.L.Weighted.weight in
     let ok = figures_parts (to_z w64 (of_z w64 c.args.amount)) (map f ls) (sym c.figures_in_limit.ensures ∙ c.if-not-figures_in_limit.false) in
-    let same = counted f ls c.weights_of-weights.result c.weights_of-weights.ensures (omega (arith, length-map ls f, ok.1)) in
-    let long : length (take (length ls) c.weights_of-weights.result) ≡ length ls = ap length same ∙ length-map (map f ls) counting_weight ∙ length-map ls f in
+    let same = c.copy_weights.ensures in
+    let long : length (take (length ls) c.copy_weights.new.weights) ≡ length ls = ap length same ∙ length-map (map f ls) counting_weight ∙ length-map ls f in
     record {
       limits = (omega (arith, long, length-map ls f, ok.1), λ k. subst (λ xs. get_or xs k 0 ≤ max_weight) (sym same) (counting_in_limit (map f ls) ok.2 k));
       small = ok.0;
@@ -62,8 +61,7 @@ returns g c =
     let ws = map counting_weight (map f ls) in
     let zed = to_z-of_z w64 z c.ranges.amount in
     let up = sym c.accounts_rise.ensures ∙ c.if-not-accounts_rise.false in
-    let ok = figures_parts (to_z w64 (of_z w64 z)) (map f ls) (sym c.figures_in_limit.ensures ∙ c.if-not-figures_in_limit.false) in
-    let same = counted f ls c.weights_of-weights.result c.weights_of-weights.ensures (omega (arith, length-map ls f, ok.1)) in
+    let same = c.copy_weights.ensures in
     let p = ends_shared z (map f ls) cs ps
     (ap (λ y. figures_in_limit y (map f ls)) (sym zed) ∙ sym c.figures_in_limit.ensures ∙ c.if-not-figures_in_limit.false) up (omega (arith, length-map ls f, c.if-parts-count.false)) in
     let shared : c.spread.new.parts ≡ written (part z ws) (length ws) ps = c.spread.ensures.after ∙ ap₂ (λ y xs. written (part y xs) (length xs) ps) zed same in
