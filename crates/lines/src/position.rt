@@ -21,8 +21,11 @@ pub(crate) fn position<L: Line>(lines: &[L], wanted: u64) -> usize
 pub(crate) fn line_with_key<L: Line>(lines: &[L], wanted: u64) -> Option<L>
     ensures { result ≡ lookup L.key wanted lines.now }
 {
-    let line = lines.get(position(lines, wanted))?;
-    (line.key() == wanted).then_some(*line)
+    lines
+        .iter()
+        .find(|line| line.key() >= wanted)
+        .copied()
+        .filter(|line| line.key() == wanted)
 }
 
 // Puts the line at the position `to`, and moves the lines from there to the count up by one.

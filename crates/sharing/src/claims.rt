@@ -28,13 +28,14 @@ pub(crate) fn claimed(claims: &[Claim]) -> u64
     claims.iter().map(|claim| claim.quotient).sum()
 }
 
-// Whether `other` takes part and has the larger remainder, or an equal one and comes earlier.
+// Whether `other` takes part and has the larger remainder, or an equal one and comes earlier. By `&` and `|`: all is tested,
+// since which test decides cannot be foreseen, and a branch that is foreseen wrongly costs more than the tests.
 fn comes_before(other: &Claim, own: &Claim) -> bool
     ensures { result ≡ comes_before other.now own.now }
 {
-    other.weight > 0
-        && (other.remainder > own.remainder
-            || (other.remainder == own.remainder && other.index < own.index))
+    (other.weight > 0)
+        & ((other.remainder > own.remainder)
+            | ((other.remainder == own.remainder) & (other.index < own.index)))
 }
 
 // How many claims come before this one.
